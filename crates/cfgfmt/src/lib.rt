@@ -1,0 +1,15 @@
+//! From a script to what is printed of it: the program as one call over any source and any sink.
+//! The contract of [`run`] says what status 0 means, and why each other status comes.
+#![tactic(auto)]
+
+mod program;
+mod refusal;
+mod session;
+#[cfg(test)]
+mod tests;
+
+pub use printer::print_outcomes;
+pub use program::run;
+pub use script::{Script, ScriptError, read_script};
+pub use session::Session;
+pub use streams::{MemSink, MemSource, ReadFailed, Sink, Source, StdSink, StdSource, WriteFailed};

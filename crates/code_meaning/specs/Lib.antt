@@ -1,0 +1,5 @@
+pub mod Write
+pub mod Value
+pub mod Evaluation
+pub mod Template
+pub mod Meaning

@@ -1,0 +1,6 @@
+pub mod Refusal
+pub mod Pieces
+pub mod ReadPieces
+pub mod Code
+pub mod Lowered
+pub mod Collector

@@ -1,0 +1,14 @@
+//! The lowering of calls in a function body to expressions of a store.
+//! What a call means is said of finished code: its evaluation, and the writes that its value stands for.
+#![tactic(auto)]
+
+mod call;
+mod collector;
+mod error;
+mod format_args;
+#[cfg(test)]
+mod tests;
+
+pub use call::{Call, FormatCall, GatedCall, Outcome};
+pub use collector::ExprCollector;
+pub use error::LowerError;

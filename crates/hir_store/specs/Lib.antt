@@ -1,0 +1,5 @@
+pub mod Tree
+pub mod Unfolding
+pub mod Parts
+pub mod Store
+pub mod Makes

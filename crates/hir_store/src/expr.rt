@@ -1,0 +1,70 @@
+use crate::{ExprId, LangFn, LangItem, PatId};
+use sqlite_items::Items;
+use sym_core::{Name, Symbol};
+
+/// A lowered expression. Its parts are named by their places in the same store.
+#[derive(Debug, Drop)]
+pub enum Expr {
+    /// What an absent expression is lowered to.
+    Missing,
+    /// An argument expression as it stands in the source, which lowering does not look into.
+    Leaf(u32),
+    /// A path of one name.
+    Path(Name),
+    /// The path of a function of a language item.
+    LangPath(LangItem, LangFn),
+    /// A literal that lowering makes.
+    Literal(Literal),
+    /// A shared reference, `&expr`.
+    Ref(ExprId),
+    /// A tuple, `(first, second)`.
+    Tuple(Items<ExprId>),
+    /// A field, `expr.name`.
+    Field {
+        /// The value that has the field.
+        expr: ExprId,
+        /// The name of the field.
+        name: Name,
+    },
+    /// An array of its elements, `[first, second]`.
+    Array(Items<ExprId>),
+    /// A call, `callee(args)`.
+    Call {
+        /// What is called.
+        callee: ExprId,
+        /// The arguments, in their order.
+        args: Items<ExprId>,
+    },
+    /// A block, `{ statements tail }`.
+    Block {
+        /// The statements, in their order.
+        statements: Items<Statement>,
+        /// The expression whose value the block has, where it has one.
+        tail: Option<ExprId>,
+        /// Whether the block is `unsafe`.
+        is_unsafe: bool,
+    },
+}
+
+/// A literal that lowering itself makes.
+#[derive(Debug, Drop)]
+pub enum Literal {
+    /// A string, `"text"`.
+    String(Symbol),
+    /// A byte string, `b"bytes"`.
+    ByteString(Items<u8>),
+}
+
+/// A statement of a block.
+#[derive(Clone, Copy, Debug)]
+pub enum Statement {
+    /// `let pat = initializer;`
+    Let {
+        /// What the value is bound to.
+        pat: PatId,
+        /// The value.
+        initializer: ExprId,
+    },
+    /// An expression whose value is let go, `expr;`.
+    Expr(ExprId),
+}

@@ -1,0 +1,3 @@
+pub mod Idx
+pub mod Arena
+pub mod Laws

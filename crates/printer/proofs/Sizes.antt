@@ -1,0 +1,31 @@
+-- How large a tree is: a number that each of its parts has less of.
+use Rattle.std.specs.Prelude.{ℕ, ◌+◌}
+use Rattle.hir_store.specs.Tree.{Tree, Trees, Steps, Bad, Missing, Leaf, Path, LangPath, Text, Bytes, Ref, Tuple, Field, Array, Call, Block, Empty, More, End, Tail, Let, Nameless, Do}
+
+-- how many expressions and statements a tree has
+abbrev mutual
+  pub tree_size : Tree → ℕ
+  tree_size Bad = 1
+  tree_size Missing = 1
+  tree_size (Leaf number) = 1
+  tree_size (Path name) = 1
+  tree_size (LangPath item function) = 1
+  tree_size (Text bytes) = 1
+  tree_size (Bytes bytes) = 1
+  tree_size (Ref t) = tree_size t + 1
+  tree_size (Tuple ts) = trees_size ts + 1
+  tree_size (Field t name) = tree_size t + 1
+  tree_size (Array ts) = trees_size ts + 1
+  tree_size (Call callee ts) = tree_size callee + trees_size ts + 1
+  tree_size (Block is_unsafe steps) = steps_size steps + 1
+
+  pub trees_size : Trees → ℕ
+  trees_size Empty = 0
+  trees_size (More t ts) = tree_size t + trees_size ts + 1
+
+  pub steps_size : Steps → ℕ
+  steps_size End = 0
+  steps_size (Tail t) = tree_size t + 1
+  steps_size (Let name t steps) = tree_size t + steps_size steps + 1
+  steps_size (Nameless t steps) = tree_size t + steps_size steps + 1
+  steps_size (Do t steps) = tree_size t + steps_size steps + 1

@@ -1,0 +1,111 @@
+-- The printed form of outcomes: a line for each call, in order, with its number and what became of it.
+use Rattle.std.specs.Prelude.{ℕ, ◌+◌, ◌/◌, ◌%◌, Bool, true, false, List, [], ◌∷◌, ◌++◌, codes, Option, Some, None}
+use Rattle.std.specs.Fmt.{decimal, digit_glyph}
+use Rattle.std.specs.List.{flat_map}
+use Rattle.sym_core.specs.declared.name.Name.{Name}
+use Rattle.sym_core.specs.Name.{name_text}
+use Rattle.hir_store.specs.declared.lang_item.LangItem.{LangItem}
+use Rattle.hir_store.specs.declared.lang_item.LangItem.TheVariants.{FormatArguments, FormatArgument}
+use Rattle.hir_store.specs.declared.lang_item.LangFn.{LangFn}
+use Rattle.hir_store.specs.declared.lang_item.LangFn.TheVariants.{New, FromStr, NewDisplay, NewDebug, NewLowerExp, NewUpperExp, NewOctal, NewPointer, NewBinary, NewLowerHex, NewUpperHex, FromUsize}
+use Rattle.hir_store.specs.declared.store.ExpressionStore.{ExpressionStore}
+use Rattle.hir_store.specs.Tree.{Tree, Trees, Steps, Bad, Missing, Leaf, Path, LangPath, Text, Bytes, Ref, Tuple, Field, Array, Call, Block, Empty, More, End, Tail, Let, Nameless, Do}
+use Rattle.hir_store.specs.Unfolding.{tree_at}
+use Rattle.hir_lower.specs.declared.call.Outcome.{Outcome}
+use Rattle.hir_lower.specs.declared.call.Outcome.TheVariants.{Code}
+
+-- what a language item is printed as
+abbrev pub item_word : LangItem → List ℕ
+item_word FormatArguments = codes "Arguments"
+item_word FormatArgument = codes "Argument"
+
+-- what a function of a language item is printed as
+abbrev pub function_word : LangFn → List ℕ
+function_word New = codes "new"
+function_word FromStr = codes "from_str"
+function_word NewDisplay = codes "new_display"
+function_word NewDebug = codes "new_debug"
+function_word NewLowerExp = codes "new_lower_exp"
+function_word NewUpperExp = codes "new_upper_exp"
+function_word NewOctal = codes "new_octal"
+function_word NewPointer = codes "new_pointer"
+function_word NewBinary = codes "new_binary"
+function_word NewLowerHex = codes "new_lower_hex"
+function_word NewUpperHex = codes "new_upper_hex"
+function_word FromUsize = codes "from_usize"
+
+-- a byte as two upper case hexadecimal digits
+abbrev pub hex_pair : ℕ → List ℕ
+hex_pair byte = digit_glyph true (byte / 16) ∷ digit_glyph true (byte % 16) ∷ []
+
+-- bytes, each as two upper case hexadecimal digits
+abbrev pub hex_of : List ℕ → List ℕ
+hex_of bytes = flat_map hex_pair bytes
+
+-- what stands in front of the statements of a block
+abbrev pub block_word : Bool → List ℕ
+block_word true = codes "unsafe { "
+block_word false = codes "{ "
+
+-- the comma behind the element of a tuple of one
+abbrev pub single_comma : Trees → List ℕ
+single_comma (More t Empty) = codes ","
+single_comma _ = []
+
+-- a `let` that binds a name to an expression, and a space
+abbrev pub let_text : List ℕ → List ℕ → List ℕ
+let_text name text = codes "let " ++ name ++ codes " = " ++ text ++ codes "; "
+
+-- the name that a pattern binds, where it binds one
+abbrev pub bound_text : Option Name → List ℕ
+bound_text (Some name) = name_text name
+bound_text None = []
+
+-- the text of an expression. A tree that is not whole, as no place of a placed store has, is printed too: as an absent
+-- expression, and with an empty name
+abbrev mutual
+  pub text_of : Tree → List ℕ
+  text_of Bad = codes "missing"
+  text_of Missing = codes "missing"
+  text_of (Leaf number) = codes "@" ++ decimal number
+  text_of (Path name) = name_text name
+  text_of (LangPath item function) = item_word item ++ codes "::" ++ function_word function
+  text_of (Text bytes) = codes "s\"" ++ hex_of bytes ++ codes "\""
+  text_of (Bytes bytes) = codes "b\"" ++ hex_of bytes ++ codes "\""
+  text_of (Ref t) = codes "&" ++ text_of t
+  text_of (Tuple ts) = codes "(" ++ texts_of ts ++ single_comma ts ++ codes ")"
+  text_of (Field t name) = text_of t ++ codes "." ++ name_text name
+  text_of (Array ts) = codes "[" ++ texts_of ts ++ codes "]"
+  text_of (Call callee ts) = text_of callee ++ codes "(" ++ texts_of ts ++ codes ")"
+  text_of (Block is_unsafe steps) = block_word is_unsafe ++ steps_text steps ++ codes "}"
+
+  -- expressions with `, ` between
+  pub texts_of : Trees → List ℕ
+  texts_of Empty = []
+  texts_of (More t ts) = text_of t ++ later_texts ts
+
+  -- expressions, each behind `, `
+  pub later_texts : Trees → List ℕ
+  later_texts Empty = []
+  later_texts (More t ts) = codes ", " ++ text_of t ++ later_texts ts
+
+  -- statements and a tail, each with a space behind it
+  pub steps_text : Steps → List ℕ
+  steps_text End = []
+  steps_text (Tail t) = text_of t ++ codes " "
+  steps_text (Let name t steps) = let_text (name_text name) (text_of t) ++ steps_text steps
+  steps_text (Nameless t steps) = let_text [] (text_of t) ++ steps_text steps
+  steps_text (Do t steps) = text_of t ++ codes "; " ++ steps_text steps
+
+-- the line of the call with this number: the number, `code`, the text of its code, LF
+abbrev pub outcome_line : ExpressionStore → ℕ → Outcome → List ℕ
+outcome_line store number (Code id) = decimal number ++ codes " code " ++ text_of (tree_at store id) ++ codes "\n"
+
+-- the lines of calls whose numbers rise by one from the first
+abbrev pub lines_from : ExpressionStore → ℕ → List Outcome → List ℕ
+lines_from store first [] = []
+lines_from store first (outcome ∷ outcomes) = outcome_line store first outcome ++ lines_from store (first + 1) outcomes
+
+-- the lines of all calls, numbered from 0
+abbrev pub printed : ExpressionStore → List Outcome → List ℕ
+printed store outcomes = lines_from store 0 outcomes

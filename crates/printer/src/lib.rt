@@ -1,0 +1,9 @@
+//! The printed form of outcomes: a line for each call, with the text of the code that it is lowered to.
+//! What is printed is said of the trees that the places of a store stand for.
+#![tactic(auto)]
+
+mod expr;
+mod printed;
+mod words;
+
+pub use printed::print_outcomes;

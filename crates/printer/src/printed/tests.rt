@@ -1,0 +1,236 @@
+// Stores that are filled by hand, and what is printed of them. Each expression is tested for parts that stand as it is placed.
+ghost use Rattle.std.specs.Prelude.{◌<◌, length, IsTrue, OnOk, is_some};
+ghost use Rattle.hir_store.specs.Tree.{is_whole, all_whole, steps_whole};
+ghost use Rattle.hir_store.specs.Unfolding.{place_of, tree_at, tree_over, trees_of, steps_of, tail_step, name_in};
+ghost use Rattle.hir_store.specs.Store.{IsPlaced};
+
+use super::*;
+use hir_store::{Expr, ExprId, LangFn, LangItem, Literal, Pat, PatId, Statement};
+use la_arena::ArenaError;
+use sqlite_items::Items;
+use std::process::Abort;
+use std::test::Fail;
+use sym_core::{Name, Symbol};
+
+fn stands(store: &ExpressionStore, id: ExprId) -> bool
+    ensures within { IsTrue result → place_of id < length store.now.exprs }
+    ensures whole { IsPlaced store.now → IsTrue result → IsTrue (is_whole (tree_at store.now id)) }
+{
+    store.exprs.get(id.idx()).is_some()
+}
+
+fn binds(store: &ExpressionStore, pat: PatId) -> bool
+    ensures { IsTrue result → IsTrue (is_some (name_in store.now pat)) }
+{
+    match store.pats.get(pat.idx()) {
+        Some(Pat::Bind(id)) => store.bindings.get(id.idx()).is_some(),
+        None => false,
+    }
+}
+
+fn all_stand(store: &ExpressionStore, ids: &[ExprId]) -> bool
+    requires { IsPlaced store.now }
+    ensures { IsTrue result → IsTrue (all_whole (trees_of (tree_at store.now) ids.now)) }
+{
+    match ids {
+        [] => true,
+        [first, rest @ ..] => stands(store, *first) && all_stand(store, rest),
+    }
+}
+
+fn tail_stands(store: &ExpressionStore, tail: Option<ExprId>) -> bool
+    requires { IsPlaced store.now }
+    ensures { IsTrue result → IsTrue (steps_whole (tail_step (tree_at store.now) tail)) }
+{
+    match tail {
+        Some(id) => stands(store, id),
+        None => true,
+    }
+}
+
+fn steps_stand(store: &ExpressionStore, statements: &[Statement], tail: Option<ExprId>) -> bool
+    requires { IsPlaced store.now }
+    ensures { IsTrue result → IsTrue (steps_whole (steps_of (name_in store.now) (tree_at store.now) statements.now tail)) }
+{
+    match statements {
+        [] => tail_stands(store, tail),
+        [Statement::Let { pat, initializer }, rest @ ..] => {
+            binds(store, *pat) && stands(store, *initializer) && steps_stand(store, rest, tail)
+        }
+        [Statement::Expr(id), rest @ ..] => stands(store, *id) && steps_stand(store, rest, tail),
+    }
+}
+
+fn parts_stand(store: &ExpressionStore, expr: &Expr) -> bool
+    requires { IsPlaced store.now }
+    ensures { IsTrue result → IsTrue (is_whole (tree_over store.now expr.now)) }
+{
+    match expr {
+        Expr::Missing | Expr::Leaf(_) | Expr::Path(_) | Expr::LangPath(_, _) => true,
+        Expr::Literal(Literal::String(_)) | Expr::Literal(Literal::ByteString(_)) => true,
+        Expr::Ref(id) => stands(store, *id),
+        Expr::Field { expr, .. } => stands(store, *expr),
+        Expr::Tuple(ids) | Expr::Array(ids) => all_stand(store, ids.as_slice()),
+        Expr::Call { callee, args } => stands(store, *callee) && all_stand(store, args.as_slice()),
+        Expr::Block {
+            statements,
+            tail,
+            ..
+        } => steps_stand(store, statements.as_slice(), *tail),
+    }
+}
+
+fn place(rt: &impl Abort, store: &mut ExpressionStore, expr: Expr) -> Result<ExprId, ArenaError>
+    requires { IsPlaced store.old }
+    ensures { IsPlaced store.new }
+{
+    assert!(rt; parts_stand(store, &expr));
+    store.alloc_expr_desugared(expr)
+}
+
+fn place_pat(store: &mut ExpressionStore, name: Name) -> Result<PatId, ArenaError>
+    requires { IsPlaced store.old }
+    ensures { IsPlaced store.new }
+{
+    let binding = store.alloc_binding(name)?;
+    store.alloc_pat(Pat::Bind(binding))
+}
+
+fn lang(
+    rt: &impl Abort,
+    store: &mut ExpressionStore,
+    item: LangItem,
+    function: LangFn,
+) -> Result<ExprId, ArenaError>
+    requires { IsPlaced store.old }
+    ensures { IsPlaced store.new }
+{
+    place(rt, store, Expr::LangPath(item, function))
+}
+
+#[test]
+fn prints_a_text(rt: HostRuntime) -> Result<(), Fail> {
+    let mut store = ExpressionStore::new(rt.alloc());
+    let callee = lang(&rt, &mut store, LangItem::FormatArguments, LangFn::FromStr)?;
+    let text = Symbol::new(rt.alloc(), "hi")?;
+    let text = place(&rt, &mut store, Expr::Literal(Literal::String(text)))?;
+    let args = Items::from_slice(rt.alloc(), &[text])?;
+    let call = place(&rt, &mut store, Expr::Call { callee, args })?;
+    assert!(rt; stands(&store, call));
+    let printed = print_outcomes(rt.alloc(), &store, &[Outcome::Code(call)])?;
+    assert_eq!(rt;
+        printed.as_slice(),
+        b"0 code Arguments::from_str(s\"6869\")\n".as_slice()
+    );
+    Ok(())
+}
+
+#[test]
+fn prints_tuples_and_names(rt: HostRuntime) -> Result<(), Fail> {
+    let alloc = rt.alloc();
+    let mut store = ExpressionStore::new(alloc);
+    let unit = place(&rt, &mut store, Expr::Tuple(Items::new(alloc)))?;
+    let leaf = place(&rt, &mut store, Expr::Leaf(4_294_967_295))?;
+    let single = Items::from_slice(alloc, &[leaf])?;
+    let single = place(&rt, &mut store, Expr::Tuple(single))?;
+    let missing = place(&rt, &mut store, Expr::Missing)?;
+    let name = Name::new(alloc, "total")?;
+    let path = place(&rt, &mut store, Expr::Path(name))?;
+    let three = Items::from_slice(alloc, &[missing, path, unit])?;
+    let three = place(&rt, &mut store, Expr::Tuple(three))?;
+    let statements = Items::from_slice(alloc, &[Statement::Expr(three)])?;
+    let block = Expr::Block {
+        statements,
+        tail: None,
+        is_unsafe: false,
+    };
+    let block = place(&rt, &mut store, block)?;
+    assert!(rt; stands(&store, unit));
+    assert!(rt; stands(&store, single));
+    assert!(rt; stands(&store, block));
+    let outcomes = [
+        Outcome::Code(unit),
+        Outcome::Code(single),
+        Outcome::Code(block),
+    ];
+    let printed = print_outcomes(alloc, &store, &outcomes)?;
+    let lines = b"0 code ()\n1 code (@4294967295,)\n2 code { (missing, total, ()); }\n";
+    assert_eq!(rt; printed.as_slice(), lines.as_slice());
+    Ok(())
+}
+
+// `[Argument::new_display(#0.0)]`
+fn argument_list(
+    rt: &impl Abort,
+    alloc: Global,
+    store: &mut ExpressionStore,
+) -> Result<ExprId, Fail>
+    requires { IsPlaced store.old }
+    ensures { OnOk result (IsPlaced store.new) }
+{
+    let callee = lang(rt, store, LangItem::FormatArgument, LangFn::NewDisplay)?;
+    let expr = place(rt, store, Expr::Path(Name::fresh(0)))?;
+    let name = Name::tuple_field(0);
+    let field = place(rt, store, Expr::Field { expr, name })?;
+    let args = Items::from_slice(alloc, &[field])?;
+    let argument = place(rt, store, Expr::Call { callee, args })?;
+    let list = Items::from_slice(alloc, &[argument])?;
+    Ok(place(rt, store, Expr::Array(list))?)
+}
+
+// `unsafe { Arguments::new(b"0178C002797B00", &#0) }`
+fn made_arguments(
+    rt: &impl Abort,
+    alloc: Global,
+    store: &mut ExpressionStore,
+) -> Result<ExprId, Fail>
+    requires { IsPlaced store.old }
+    ensures { OnOk result (IsPlaced store.new) }
+{
+    let callee = lang(rt, store, LangItem::FormatArguments, LangFn::New)?;
+    let template = Items::from_slice(alloc, b"\x01x\xc0\x02y{\x00")?;
+    let template = place(rt, store, Expr::Literal(Literal::ByteString(template)))?;
+    let list = place(rt, store, Expr::Path(Name::fresh(0)))?;
+    let list = place(rt, store, Expr::Ref(list))?;
+    let args = Items::from_slice(alloc, &[template, list])?;
+    let call = place(rt, store, Expr::Call { callee, args })?;
+    let block = Expr::Block {
+        statements: Items::new(alloc),
+        tail: Some(call),
+        is_unsafe: true,
+    };
+    Ok(place(rt, store, block)?)
+}
+
+#[test]
+fn prints_a_block(rt: HostRuntime) -> Result<(), Fail> {
+    let alloc = rt.alloc();
+    let mut store = ExpressionStore::new(alloc);
+    let leaf = place(&rt, &mut store, Expr::Leaf(1))?;
+    let argument = place(&rt, &mut store, Expr::Ref(leaf))?;
+    let references = Items::from_slice(alloc, &[argument])?;
+    let references = place(&rt, &mut store, Expr::Tuple(references))?;
+    let list = argument_list(&rt, alloc, &mut store)?;
+    let made = made_arguments(&rt, alloc, &mut store)?;
+    let pat = place_pat(&mut store, Name::fresh(0))?;
+    let first = Statement::Let {
+        pat,
+        initializer: references,
+    };
+    let second = Statement::Let {
+        pat,
+        initializer: list,
+    };
+    let block = Expr::Block {
+        statements: Items::from_slice(alloc, &[first, second])?,
+        tail: Some(made),
+        is_unsafe: false,
+    };
+    let block = place(&rt, &mut store, block)?;
+    assert!(rt; stands(&store, block));
+    let printed = print_outcomes(alloc, &store, &[Outcome::Code(block)])?;
+    let line =
+        b"0 code { let #0 = (&@1,); let #0 = [Argument::new_display(#0.0)]; unsafe { Arguments::new(b\"0178C002797B00\", &#0) } }\n";
+    assert_eq!(rt; printed.as_slice(), line.as_slice());
+    Ok(())
+}

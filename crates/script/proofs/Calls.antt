@@ -1,0 +1,133 @@
+-- Calls item by item: how the reading begins, goes on, ends and stops.
+use Rattle.std.proofs.Common.{◌≡◌, ℕ, ◌≤◌, ◌<◌, List, [], ◌∷◌, ◌++◌, length, take, drop, count_by, nat_eq, Some, None, refl, ap, ◌∙◌, sym, subst, append_assoc, length-append, suc, arith}
+use Rattle.std.specs.Str.{IsUtf8, chars, encode_utf8_all}
+use Rattle.std.proofs.lemmas.List.{append-nil, take_at}
+use Rattle.std.proofs.lemmas.Str.{encodes-chars, chars-append, chars_from_encodes, IsUtf8-take}
+use Rattle.text_cut.specs.Runs.{size}
+use Rattle.text_cut.specs.Place.{Place, place}
+use Rattle.text_cut.specs.Reading.{Spelled, texts, items, Reach}
+use Rattle.text_cut.proofs.Sizes.{size_bytes, front_bytes, cut_at}
+use Rattle.text_cut.proofs.Pieces.{furthest, one_reading}
+use Rattle.text_cut.proofs.Longer.{spelled_before, reach_longer}
+use Rattle.text_cut.proofs.SoFar.{so_far_begins, so_far_more}
+use Rattle.hir_lower.specs.declared.call.GatedCall.{GatedCall}
+use Rattle.hir_lower.specs.declared.call.Call.TheVariants.{Format}
+use Rattle.script.specs.Script.{Item, Blank, FormatItem, IsItem, AreItems, AreCalls, BreaksAt, calls_of}
+use Rattle.script.specs.ReadItem.{item_at}
+use Rattle.script.specs.ReadCalls.{no_state, CallsSoFar, StopsBehind, IsValidFront}
+use Rattle.script.proofs.Items.{items_read, steps_by, ignores_rest}
+
+-- the calls of one more item
+pub calls_more : (values : List Item) (v : Item) → calls_of (values ++ v ∷ []) ≡ calls_of values ++ calls_of (v ∷ [])
+calls_more [] v = refl
+calls_more (Blank ∷ values) v = calls_more values v
+calls_more (FormatItem template ∷ values) v = ap (λ l. record { call = Format (record { template = template }) } ∷ l) (calls_more values v)
+
+-- nothing is read yet
+pub calls_begin : (text : List ℕ) → CallsSoFar text [] (place 0 text)
+calls_begin text = record { values = []; so_far = so_far_begins IsItem no_state text; calls_are = refl }
+
+-- one more item is read
+pub calls_go_on : (text : List ℕ) (calls : List GatedCall) (here : Place) (v : Item) (e : Place) → CallsSoFar text calls here → item_at here ≡ Some (v, e) → CallsSoFar text (calls ++ calls_of (v ∷ [])) e
+calls_go_on text calls here v e so_far found = record {
+  values = so_far.values ++ v ∷ [];
+  so_far = so_far_more IsItem no_state (λ state. item_at) (λ state x. tt) items_read steps_by text so_far.values tt here v e so_far.so_far found;
+  calls_are = ap (λ l. l ++ calls_of (v ∷ [])) so_far.calls_are ∙ sym (calls_more so_far.values v);
+}
+
+-- what stands in front of some characters of a text is a text of its own
+front_utf8 : (text front rest : List ℕ) → IsUtf8 text → chars text ≡ front ++ rest → IsUtf8 (encode_utf8_all front)
+front_utf8 text front rest utf8 there =
+    subst (λ l. IsUtf8 l)
+    (ap (λ l. take (size front) l) (front_bytes text front rest utf8 there) ∙ take_at (encode_utf8_all front) (encode_utf8_all rest) (size front) (size_bytes front))
+    (IsUtf8-take text (size front) utf8 (cut_at text front rest utf8 there))
+
+-- items up to a place in a text are items of the bytes in front of it
+front_items : (text rest : List ℕ) (spelled : List (Spelled Item)) → IsUtf8 text → Reach IsItem (chars text) spelled rest → AreItems (encode_utf8_all (texts spelled)) spelled
+front_items text rest spelled utf8 reach =
+    let front : IsUtf8 (encode_utf8_all (texts spelled)) = front_utf8 text (texts spelled) rest utf8 reach.there in
+    record {
+      utf8 = front;
+      reading = record {
+        there = sym (chars_from_encodes (texts spelled) (encode_utf8_all (texts spelled)) front refl) ∙ sym (append-nil (texts spelled));
+        are = spelled_before IsItem ignores_rest [] spelled rest [] reach.are;
+      };
+    }
+
+-- the bytes of items
+items_size : (bytes : List ℕ) (spelled : List (Spelled Item)) → AreItems bytes spelled → length bytes ≡ size (texts spelled)
+items_size bytes spelled are =
+    ap length (sym (encodes-chars bytes are.utf8)) ∙ (size_bytes (chars bytes) ∙ ap size (are.reading.there ∙ append-nil (texts spelled)))
+
+-- of two fronts of the same bytes the longer begins with the shorter
+shorter_front : (text rest other left : List ℕ) → text ++ rest ≡ other ++ left → length other ≤ length text → text ≡ other ++ drop (length other) text
+shorter_front text rest [] left same fits = refl
+shorter_front [] rest (b ∷ other) left same fits = absurd (omega arith)
+shorter_front (a ∷ text) rest (b ∷ other) left same fits =
+    let more : text ≡ other ++ drop (length other) text = shorter_front text rest other left (ap (λ l. drop 1 l) same) (omega arith) in
+    let head : a ≡ b = cc in
+    λ i. head i ∷ more i
+
+-- items in front of the bytes reach no further than where the reader stops
+items_within : (bytes text : List ℕ) (calls : List GatedCall) (at : ℕ) → IsValidFront bytes text → StopsBehind (chars text) calls at → (other left : List ℕ) (others : List (Spelled Item)) → bytes ≡ other ++ left → AreItems other others → length other ≤ at
+items_within bytes text calls at valid stops other left others there are =
+    let so_far = stops.so_far.so_far in
+    let split : text ≡ other ++ drop (length other) text = shorter_front text valid.rest other left (sym valid.there ∙ there) (valid.longest other left are.utf8 there) in
+    let parts : chars text ≡ chars other ++ chars (drop (length other) text) = ap (λ l. chars l) split ∙ chars-append other (drop (length other) text) are.utf8 in
+    let reach : Reach IsItem (chars text) others (chars (drop (length other) text)) = subst (λ l. Reach IsItem l others (chars (drop (length other) text))) (sym parts)
+    (reach_longer IsItem ignores_rest (chars other) others [] (chars (drop (length other) text)) are.reading) in
+    let stuck : item_at (place (size (texts so_far.front)) stops.left) ≡ None = subst (λ n. item_at (place n stops.left) ≡ None) so_far.at stops.none in
+    let most : size (texts others) ≤ size (texts so_far.front) = furthest IsItem no_state (λ state. item_at) items_read (chars text) so_far.front stops.left so_far.reach stuck others (chars (drop (length other) text)) reach in
+    omega (arith, most, items_size other others are, so_far.at)
+
+no_more : (bytes : List ℕ) → length bytes ≤ 0 → bytes ≡ []
+no_more [] none = refl
+no_more (b ∷ bytes) none = absurd (omega arith)
+
+-- the bytes of a text up to where the reader stops
+front_is : (bytes text : List ℕ) (calls : List GatedCall) (at : ℕ) → (valid : IsValidFront bytes text) → (stops : StopsBehind (chars text) calls at) → bytes ≡ encode_utf8_all (texts stops.so_far.so_far.front) ++ (encode_utf8_all stops.left ++ valid.rest)
+front_is bytes text calls at valid stops =
+    let so_far = stops.so_far.so_far in
+    valid.there ∙ (ap (λ l. l ++ valid.rest) (front_bytes text (texts so_far.front) stops.left valid.utf8 so_far.reach.there) ∙ append_assoc (encode_utf8_all (texts so_far.front)) (encode_utf8_all stops.left) valid.rest)
+
+-- where the reader stops behind all bytes, they are items with these calls
+pub whole_read : (bytes text : List ℕ) (calls : List GatedCall) (at : ℕ) → IsValidFront bytes text → StopsBehind (chars text) calls at → length bytes ≤ at → AreCalls bytes calls
+whole_read bytes text calls at valid stops all =
+    let so_far = stops.so_far.so_far in
+    let front = encode_utf8_all (texts so_far.front) in
+    let whole : bytes ≡ front ++ (encode_utf8_all stops.left ++ valid.rest) = front_is bytes text calls at valid stops in
+    let none : encode_utf8_all stops.left ++ valid.rest ≡ [] = no_more (encode_utf8_all stops.left ++ valid.rest) (omega (arith, ap length whole, length-append front (encode_utf8_all stops.left ++ valid.rest), size_bytes (texts so_far.front), so_far.at)) in
+    let same : bytes ≡ front = whole ∙ (ap (λ l. front ++ l) none ∙ append-nil front) in
+    record {
+      spelled = so_far.front;
+      are = subst (λ l. AreItems l so_far.front) (sym same) (front_items text stops.left so_far.front valid.utf8 so_far.reach);
+      calls_are = stops.so_far.calls_are ∙ ap (λ l. calls_of l) so_far.are;
+    }
+
+-- where the reader stops in front of some bytes, they break there
+pub breaks_at : (bytes text : List ℕ) (calls : List GatedCall) (at line : ℕ) → IsValidFront bytes text → StopsBehind (chars text) calls at → at < length bytes → line ≡ suc (count_by (λ b. nat_eq b 10) (take at bytes)) → BreaksAt bytes line
+breaks_at bytes text calls at line valid stops more counts =
+    let so_far = stops.so_far.so_far in
+    let front = encode_utf8_all (texts so_far.front) in
+    let whole : bytes ≡ front ++ (encode_utf8_all stops.left ++ valid.rest) = front_is bytes text calls at valid stops in
+    let size_is : length front ≡ at = size_bytes (texts so_far.front) ∙ sym so_far.at in
+    record {
+      none = λ others are. let within : length bytes ≤ at = items_within bytes text calls at valid stops bytes [] are.spelled (sym (append-nil bytes)) are.are in omega (arith, within, more);
+      front = front;
+      is_longest = record {
+        rest = encode_utf8_all stops.left ++ valid.rest;
+        there = whole;
+        spelled = so_far.front;
+        are = front_items text stops.left so_far.front valid.utf8 so_far.reach;
+        longest = λ other left others there are. let within : length other ≤ at = items_within bytes text calls at valid stops other left others there are in omega (arith, within, size_is);
+      };
+      counts = counts ∙ ap (λ l. suc (count_by (λ b. nat_eq b 10) l)) (ap (λ l. take at l) whole ∙ take_at front (encode_utf8_all stops.left ++ valid.rest) at size_is);
+    }
+
+-- bytes are items in one way
+pub one_list : (bytes : List ℕ) (spelled others : List (Spelled Item)) → AreItems bytes spelled → AreItems bytes others → spelled ≡ others
+one_list bytes spelled others are also = one_reading IsItem no_state (λ state. item_at) items_read (chars bytes) spelled others are.reading also.reading
+
+-- bytes have one list of calls
+pub one_script : (bytes : List ℕ) (calls others : List GatedCall) → AreCalls bytes calls → AreCalls bytes others → calls ≡ others
+one_script bytes calls others a b = a.calls_are ∙ (ap (λ l. calls_of (items l)) (one_list bytes a.spelled b.spelled a.are b.are) ∙ sym b.calls_are)

@@ -1,0 +1,179 @@
+-- Each kind of item is found where it stands, and stands where it is found.
+use Rattle.std.proofs.Common.{◌≡◌, ℕ, ◌+◌, ◌<◌, true, cond, List, [], ◌∷◌, ◌++◌, length, Option, Some, None, refl, ap, ◌∙◌, sym, subst, append_assoc, length-append, codes, arith}
+use Rattle.std.specs.Option.{option_map, option_and_then}
+use Rattle.std.specs.Str.{chars, encode_utf8_all}
+use Rattle.std.proofs.lemmas.Option.{option_and_then_some, same_Some}
+use Rattle.text_cut.specs.Runs.{front, size, AllPass, is_blank}
+use Rattle.text_cut.specs.Place.{Place, place, past, Took}
+use Rattle.text_cut.specs.Rules.{Spells, past_word}
+use Rattle.text_cut.specs.Reading.{Spelled, texts, ReadsPieces, StepsBy, IgnoresRest}
+use Rattle.text_cut.proofs.Sizes.{size_append}
+use Rattle.text_cut.proofs.Rules.{took_both, word_found}
+use Rattle.text_cut.proofs.Options.{mapped, chosen, none_some}
+use Rattle.code_meaning.specs.Write.{Piece}
+use Rattle.hir_lower.specs.Pieces.{HasPieces}
+use Rattle.script.specs.Script.{Item, Blank, FormatItem, is_plain, IsItem}
+use Rattle.script.specs.ReadItem.{past_line, string_at, is_doubled, call_behind, format_at, or_else, item_behind, item_at}
+use Rattle.script.specs.ReadCalls.{no_state}
+use Rattle.script.proofs.Strings.{RunAndWord, StringIs, past_run, run_then, run_then_is, string_found, string_is}
+use Rattle.script.proofs.Doubled.{pieces_doubled, doubled_pieces}
+
+-- one answer or the other
+or_else_is : {A C : Type 0} (o : Option Place) (reader : Place → Option A) (other : Option A) (r : A) → or_else o reader other ≡ Some r → ((p : Place) → o ≡ Some p → reader p ≡ Some r → C) → (other ≡ Some r → C) → C
+or_else_is None reader other r e first second = second e
+or_else_is (Some p) reader other r e first second = first p refl e
+
+-- a line without meaning is found
+blank_found : (blanks rest : List ℕ) (at : ℕ) → AllPass is_blank blanks → item_at (place at ((blanks ++ 10 ∷ []) ++ rest)) ≡ Some (Blank, place (at + size (blanks ++ 10 ∷ [])) rest)
+blank_found blanks rest at are =
+    ap (λ l. item_at (place at l)) (append_assoc blanks (10 ∷ []) rest)
+    ∙ (ap (λ p. item_behind p) (past_run is_blank blanks (10 ∷ rest) at are refl)
+    ∙ ap (λ n. Some (Blank, place n rest)) (omega (arith, size_append blanks (10 ∷ []))))
+
+-- a call is found behind its word
+format_found : (between string after rest : List ℕ) (at : ℕ) (pieces : List Piece) → AllPass is_blank between → AllPass is_plain string → AllPass is_blank after → HasPieces (encode_utf8_all string) pieces → format_at (place at (between ++ (34 ∷ (string ++ (34 ∷ (after ++ (10 ∷ rest))))))) ≡ Some (FormatItem (encode_utf8_all string), place (((at + size (between ++ 34 ∷ [])) + size (string ++ 34 ∷ [])) + size (after ++ 10 ∷ [])) rest)
+format_found between string after rest at pieces blanks plain ends has =
+    let behind_string = (at + size (between ++ 34 ∷ [])) + size (string ++ 34 ∷ []) in
+    ap (λ o. option_and_then call_behind o) (string_found between string (after ++ (10 ∷ rest)) at blanks plain)
+    ∙ (ap (λ b. cond b (option_map (λ e. (FormatItem (encode_utf8_all string), e)) (past_line (place behind_string (after ++ (10 ∷ rest))))) None) (pieces_doubled (encode_utf8_all string) pieces has)
+    ∙ ap (λ o. option_map (λ e. (FormatItem (encode_utf8_all string), e)) o) (run_then is_blank (10 ∷ []) after rest behind_string ends refl))
+
+-- the spelling of a call in front of what follows
+abbrev format_line : List ℕ → List ℕ → List ℕ → List ℕ → List ℕ → List ℕ
+format_line before between string after rest = before ++ (codes "format" ++ (between ++ (34 ∷ (string ++ (34 ∷ (after ++ (10 ∷ rest)))))))
+
+format_line_rest : (before between string after rest : List ℕ) → format_line before between string after [] ++ rest ≡ format_line before between string after rest
+format_line_rest before between string after rest = simp append_assoc
+
+format_line_size : (before between string after : List ℕ) (at : ℕ) → ((((at + size before) + size (codes "format")) + size (between ++ 34 ∷ [])) + size (string ++ 34 ∷ [])) + size (after ++ 10 ∷ []) ≡ at + size (format_line before between string after [])
+format_line_size before between string after at = omega (
+  arith,
+  size_append before (codes "format" ++ (between ++ (34 ∷ (string ++ (34 ∷ (after ++ (10 ∷ []))))))),
+  size_append between (34 ∷ []),
+  size_append between (34 ∷ (string ++ (34 ∷ (after ++ (10 ∷ []))))),
+  size_append string (34 ∷ []),
+  size_append string (34 ∷ (after ++ (10 ∷ []))),
+  size_append after (10 ∷ []),
+)
+
+-- a call is found
+call_found : (before between string after rest : List ℕ) (at : ℕ) (pieces : List Piece) → AllPass is_blank before → AllPass is_blank between → AllPass is_plain string → AllPass is_blank after → HasPieces (encode_utf8_all string) pieces → item_at (place at (format_line before between string after [] ++ rest)) ≡ Some (FormatItem (encode_utf8_all string), place (at + size (format_line before between string after [])) rest)
+call_found before between string after rest at pieces front blanks plain ends has =
+    let more = between ++ (34 ∷ (string ++ (34 ∷ (after ++ (10 ∷ rest))))) in
+    ap (λ l. item_at (place at l)) (format_line_rest before between string after rest)
+    ∙ (ap (λ p. item_behind p) (past_run is_blank before (codes "format" ++ more) at front refl)
+    ∙ (ap (λ o. or_else o format_at None) (word_found (codes "format") (at + size before) more)
+    ∙ (format_found between string after rest ((at + size before) + size (codes "format")) pieces blanks plain ends has
+    ∙ ap (λ n. Some (FormatItem (encode_utf8_all string), place n rest)) (format_line_size before between string after at))))
+
+-- what a rule says is found
+pub item_found : (front : List (Spelled Item)) (at : ℕ) (text : List ℕ) (v : Item) (rest : List ℕ) → IsItem front text v rest → item_at (place at (text ++ rest)) ≡ Some (v, place (at + size text) rest)
+item_found front at text Blank rest is =
+    subst (λ l. item_at (place at (l ++ rest)) ≡ Some (Blank, place (at + size l) rest)) (sym is.whole) (blank_found is.blanks rest at is.are_blanks)
+item_found front at text (FormatItem template) rest is =
+    let has : HasPieces (encode_utf8_all is.string) is.pieces = subst (λ l. HasPieces l is.pieces) is.value is.has_pieces in
+    subst (λ l. item_at (place at (l ++ rest)) ≡ Some (FormatItem template, place (at + size l) rest)) (sym is.whole)
+    (subst (λ t. item_at (place at (format_line is.before is.between is.string is.after [] ++ rest)) ≡ Some (FormatItem t, place (at + size (format_line is.before is.between is.string is.after [])) rest)) (sym is.value)
+    (call_found is.before is.between is.string is.after rest at is.pieces is.blank_before is.blank_between is.plain is.blank_after has))
+
+-- a call behind its word stands between two places
+record CallIs (here : Place) (r : Item × Place) : Type 0 where
+  between : List ℕ
+  string : List ℕ
+  after : List ℕ
+  template : List ℕ
+  is : r.0 ≡ FormatItem template
+  took : Took here r.1 (((between ++ 34 ∷ []) ++ (string ++ 34 ∷ [])) ++ (after ++ 10 ∷ []))
+  blank_between : AllPass is_blank between
+  plain : AllPass is_plain string
+  blank_after : AllPass is_blank after
+  value : template ≡ encode_utf8_all string
+  has : (pieces : List Piece) × HasPieces template pieces
+
+-- where the end of a call's line is found, the call stands
+ended_is : (here : Place) (string : List ℕ × Place) (e : Place) → StringIs here string → is_doubled None (chars string.0) ≡ true → past_line string.1 ≡ Some e → CallIs here (FormatItem string.0, e)
+ended_is here string e is doubled end =
+    let line : RunAndWord is_blank (10 ∷ []) string.1 e = run_then_is is_blank (10 ∷ []) string.1 e end in
+    record {
+      between = is.blanks;
+      string = is.string;
+      after = line.run;
+      template = string.0;
+      is = refl;
+      took = took_both here string.1 e ((is.blanks ++ 34 ∷ []) ++ (is.string ++ 34 ∷ [])) (line.run ++ 10 ∷ []) is.took line.took;
+      blank_between = is.are_blanks;
+      plain = is.plain;
+      blank_after = line.pass;
+      value = is.value;
+      has = doubled_pieces string.0 doubled;
+    }
+
+-- where a call is found behind its word, it stands
+call_is : (here : Place) (r : Item × Place) → format_at here ≡ Some r → CallIs here r
+call_is here r found = option_and_then_some call_behind (string_at here) r found
+    (λ string there behind. chosen (is_doubled None (chars string.0)) (option_map (λ e. (FormatItem string.0, e)) (past_line string.1)) None (Some r) behind
+    (λ doubled ended. mapped (λ (e : Place). (FormatItem string.0, e)) (past_line string.1) r ended
+    (λ e end same. subst (λ z. CallIs here z) same (ended_is here string e (string_is here string there) doubled end)))
+    (λ single none. absurd (none_some r none)))
+
+-- a call with its word stands where it is found
+format_is : (front : List (Spelled Item)) (p b : Place) (r : Item × Place) → RunAndWord is_blank (codes "format") p b → CallIs b r → Spells (λ at. IsItem front) p r
+format_is front p b r word is =
+    let text = (word.run ++ codes "format") ++ (((is.between ++ 34 ∷ []) ++ (is.string ++ 34 ∷ [])) ++ (is.after ++ 10 ∷ [])) in
+    record {
+      text = text;
+      took = took_both p b r.1 (word.run ++ codes "format") (((is.between ++ 34 ∷ []) ++ (is.string ++ 34 ∷ [])) ++ (is.after ++ 10 ∷ [])) word.took is.took;
+      rule = subst (λ v. IsItem front text v r.1.left) (sym is.is) (record {
+        before = word.run;
+        between = is.between;
+        string = is.string;
+        after = is.after;
+        whole = simp append_assoc;
+        blank_before = word.pass;
+        blank_between = is.blank_between;
+        blank_after = is.blank_after;
+        plain = is.plain;
+        value = is.value;
+        pieces = is.has.0;
+        has_pieces = is.has.1;
+      });
+    }
+
+-- a line without meaning stands where it is found
+blank_is : (front : List (Spelled Item)) (p e : Place) → RunAndWord is_blank (10 ∷ []) p e → Spells (λ at. IsItem front) p (Blank, e)
+blank_is front p e line = record { text = line.run ++ 10 ∷ []; took = line.took; rule = record { blanks = line.run; whole = refl; are_blanks = line.pass } }
+
+-- what is found stands
+pub item_is : (front : List (Spelled Item)) (p : Place) (r : Item × Place) → item_at p ≡ Some r → Spells (λ at. IsItem front) p r
+item_is front p r found =
+    or_else_is (past_word (10 ∷ []) (past is_blank p)) (λ e. Some (Blank, e)) (or_else (past_word (codes "format") (past is_blank p)) format_at None) r found
+    (λ e line same. subst (λ z. Spells (λ at. IsItem front) p z) (same_Some _ _ same) (blank_is front p e (run_then_is is_blank (10 ∷ []) p e line)))
+    (λ other. or_else_is (past_word (codes "format") (past is_blank p)) format_at None r other
+    (λ b word call. format_is front p b r (run_then_is is_blank (codes "format") p b word) (call_is b r call))
+    (λ none. absurd (none_some r none)))
+
+-- no item is empty
+item_some : (front : List (Spelled Item)) (text : List ℕ) (v : Item) (rest : List ℕ) → IsItem front text v rest → 0 < length text
+item_some front text Blank rest is = omega (arith, ap length is.whole, length-append is.blanks (10 ∷ []))
+item_some front text (FormatItem template) rest is =
+    omega (arith, ap length is.whole, length-append is.before (codes "format" ++ (is.between ++ (34 ∷ (is.string ++ (34 ∷ (is.after ++ 10 ∷ [])))))))
+
+-- the reader finds the items, and only them
+pub items_read : ReadsPieces IsItem no_state (λ state. item_at)
+items_read = record {
+  found = λ front text v rest is. item_found front (size (texts front)) text v rest is;
+  is = λ front left r found. item_is front (place (size (texts front)) left) r found;
+  some = item_some;
+}
+
+-- the next item needs nothing of the items in front
+pub steps_by : StepsBy no_state (λ state v. tt)
+steps_by = record { more = λ front s. refl }
+
+same_anywhere : (front : List (Spelled Item)) (text : List ℕ) (v : Item) (rest other : List ℕ) → IsItem front text v rest → IsItem front text v other
+same_anywhere front text Blank rest other is = is
+same_anywhere front text (FormatItem template) rest other is = is
+
+-- an item is one whatever follows it
+pub ignores_rest : IgnoresRest IsItem
+ignores_rest = record { same = same_anywhere }

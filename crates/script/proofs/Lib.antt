@@ -1,0 +1,7 @@
+pub mod Strings
+pub mod Doubled
+pub mod Items
+pub mod Calls
+pub mod Words
+pub mod Ends
+pub mod OneScript

@@ -1,0 +1,96 @@
+-- A script is a list of items, one after the other, that covers its text; each item is a line.
+use Rattle.std.specs.Prelude.{◌≡◌, ℕ, ◌≤◌, Bool, false, ◌||◌, not, nat_eq, suc, List, [], ◌∷◌, ◌++◌, length, count_by, codes, cond}
+use Rattle.std.specs.Str.{IsUtf8, chars, encode_utf8_all}
+use Rattle.text_cut.specs.Runs.{AllPass, is_blank}
+use Rattle.text_cut.specs.Reading.{Spelled, items, IsReading}
+use Rattle.code_meaning.specs.Write.{Piece}
+use Rattle.hir_lower.specs.declared.call.GatedCall.{GatedCall}
+use Rattle.hir_lower.specs.declared.call.Call.TheVariants.{Format}
+use Rattle.hir_lower.specs.Pieces.{HasPieces}
+
+-- a line without meaning, or a call of `format_args!` with the text of its string
+pub data Item : Type 0 where
+  Blank : Item
+  FormatItem : List ℕ → Item
+
+-- a character that stands for itself in a string: other than `"`, `\` and LF
+abbrev pub is_plain : ℕ → Bool
+is_plain c = not (nat_eq c 34 || (nat_eq c 92 || nat_eq c 10))
+
+-- the text is blanks (spaces, TABs and CRs) and a line feed
+pub record IsBlankLine (text : List ℕ) : Type 0 where
+  pub blanks : List ℕ
+  pub whole : text ≡ blanks ++ 10 ∷ []
+  pub are_blanks : AllPass is_blank blanks
+
+-- the text is the word `format` and a string, with blanks before, between and after them, and a line feed
+pub record IsFormatLine (text : List ℕ) (template : List ℕ) : Type 0 where
+  pub before : List ℕ
+  pub between : List ℕ
+  pub string : List ℕ
+  pub after : List ℕ
+  pub whole : text ≡ before ++ (codes "format" ++ (between ++ (34 ∷ (string ++ (34 ∷ (after ++ 10 ∷ []))))))
+  pub blank_before : AllPass is_blank before
+  pub blank_between : AllPass is_blank between
+  pub blank_after : AllPass is_blank after
+  pub plain : AllPass is_plain string
+  pub value : template ≡ encode_utf8_all string
+  pub pieces : List Piece
+  pub has_pieces : HasPieces template pieces
+
+-- the spellings of an item, whatever stands in front of it and behind it
+abbrev pub IsItem : List (Spelled Item) → List ℕ → Item → List ℕ → Type 0
+IsItem front text Blank rest = IsBlankLine text
+IsItem front text (FormatItem template) rest = IsFormatLine text template
+
+-- the bytes are these items with their spellings
+pub record AreItems (bytes : List ℕ) (spelled : List (Spelled Item)) : Type 0 where
+  pub utf8 : IsUtf8 bytes
+  pub reading : IsReading IsItem (chars bytes) spelled
+
+-- the calls of items, in order
+abbrev pub calls_of : List Item → List GatedCall
+calls_of [] = []
+calls_of (Blank ∷ more) = calls_of more
+calls_of (FormatItem template ∷ more) = record { call = Format (record { template = template }) } ∷ calls_of more
+
+-- whether the last of the bytes is a line feed
+abbrev pub ends_line : List ℕ → Bool
+ends_line [] = false
+ends_line (b ∷ []) = nat_eq b 10
+ends_line (b ∷ c ∷ bytes) = ends_line (c ∷ bytes)
+
+-- the bytes, with a line feed behind them where there are some and the last one is none
+abbrev pub with_end : List ℕ → List ℕ
+with_end [] = []
+with_end (b ∷ bytes) = cond (ends_line (b ∷ bytes)) (b ∷ bytes) ((b ∷ bytes) ++ 10 ∷ [])
+
+-- the bytes are items, and these are their calls
+pub record AreCalls (bytes : List ℕ) (calls : List GatedCall) : Type 0 where
+  pub spelled : List (Spelled Item)
+  pub are : AreItems bytes spelled
+  pub calls_are : calls ≡ calls_of (items spelled)
+
+-- the bytes are a script with these calls
+abbrev pub IsScript : List ℕ → List GatedCall → Type 0
+IsScript bytes calls = AreCalls (with_end bytes) calls
+
+-- this is the longest front of the bytes that is a list of whole items
+pub record IsLongestFront (bytes front : List ℕ) : Type 0 where
+  pub rest : List ℕ
+  pub there : bytes ≡ front ++ rest
+  pub spelled : List (Spelled Item)
+  pub are : AreItems front spelled
+  pub longest : (other left : List ℕ) (others : List (Spelled Item)) → bytes ≡ other ++ left → AreItems other others
+      → length other ≤ length front
+
+-- the bytes are no items, and the first broken one begins in this line, counted from 1
+pub record BreaksAt (bytes : List ℕ) (line : ℕ) : Type 0 where
+  pub none : (calls : List GatedCall) → AreCalls bytes calls → ⊥
+  pub front : List ℕ
+  pub is_longest : IsLongestFront bytes front
+  pub counts : line ≡ suc (count_by (λ b. nat_eq b 10) front)
+
+-- the bytes are no script, and the first broken item begins in this line, counted from 1
+abbrev pub IsFaultLine : List ℕ → ℕ → Type 0
+IsFaultLine bytes line = BreaksAt (with_end bytes) line

@@ -1,0 +1,201 @@
+ghost use Rattle.std.specs.Prelude.{◌≡◌, ◌+◌, ◌≤◌, ◌++◌, [], ◌∷◌, if◌then◌else◌, IfOk, OnOk, OnErr, length, vec_len, take, count_by, nat_eq, chars, suc};
+ghost use Rattle.script.specs.Script.{IsScript, AreCalls, with_end};
+ghost use Rattle.script.specs.ReadCalls.{StopsBehind, IsValidFront};
+ghost use Rattle.script.specs.Fault.{FaultIs, BreakIs};
+
+use crate::item::{push_call, read_item};
+use hir_lower::GatedCall;
+use std::alloc::{AllocError, Global};
+use std::str;
+use text_cut::begin;
+use thiserror::Error;
+
+/// The greatest length of a script, in bytes.
+pub const MOST: usize = 16_777_216;
+
+/// A script that was read.
+#[derive(Drop)]
+pub struct Script {
+    /// The calls of the script, in order.
+    pub calls: Vec<GatedCall>,
+}
+
+/// Why a script was not read.
+#[derive(Debug, Drop, Error)]
+pub enum ScriptError {
+    /// The text is no script.
+    #[error("line {line} is no item")]
+    Syntax {
+        /// The line in which the first broken item begins, counted from 1.
+        line: u64,
+    },
+    /// No memory is left.
+    #[error("{0}")]
+    Memory(AllocError),
+}
+
+impl From<AllocError> for ScriptError {
+    ghost use Rattle.std.specs.Prelude.{◌≡◌};
+    ghost use Rattle.script.specs.declared.script.ScriptError.TheVariants.{Memory};
+
+    ghost from_gives = { λ error refused. refused ≡ Memory error };
+
+    fn from(error: AllocError) -> ScriptError {
+        ScriptError::Memory(error)
+    }
+}
+
+// The longest front of the bytes that is UTF-8.
+fn valid_front(bytes: &[u8]) -> &str
+    ensures { IsValidFront bytes.now result.now }
+{
+    match str::from_utf8(bytes) {
+        Ok(text) => text,
+        Err(error) => match str::from_utf8(&bytes[..error.valid_up_to()]) {
+            Ok(text) => text,
+            Err(_) => unreachable!(),
+        },
+    }
+}
+
+// Reads the items at the front of a text: their calls, and how many bytes they take.
+fn read_calls(alloc: Global, text: &str) -> Result<(Vec<GatedCall>, u32), AllocError>
+    requires { length text.now ≤ 4_294_967_295 }
+    ensures { IfOk result (λ r. StopsBehind (chars text.now) r.0.items r.1) }
+{
+    let mut calls = Vec::new(alloc);
+    let mut here = begin(text);
+    while let Some((item, behind)) = read_item(here) {
+        push_call(alloc, &mut calls, item)?;
+        here = behind;
+    }
+    Ok((calls, here.at))
+}
+
+// The line of the byte behind these bytes, counted from 1.
+fn line_behind(bytes: &[u8]) -> u64
+    requires { length bytes.now ≤ 16_777_217 }
+    ensures { result ≡ suc (count_by (λ b. nat_eq b 10) bytes.now) }
+{
+    bytes.iter().filter(|b| **b == b'\n').count() as u64 + 1
+}
+
+/// Reads a script whose last line ends in a line feed.
+///
+/// Where it does not, as in `format "a"` alone, the last line is no item; see [`end_last_line`].
+///
+/// # Errors
+///
+/// [`ScriptError::Syntax`] with the line of the first broken item, exactly where the bytes are no list of items;
+/// [`ScriptError::Memory`] where no memory is left.
+pub fn read_ended(alloc: Global, bytes: &[u8]) -> Result<Script, ScriptError>
+    requires { length bytes.now ≤ MOST + 1 }
+    ensures script { IfOk result (λ script. AreCalls bytes.now script.calls.items) }
+    ensures fault { BreakIs result bytes.now }
+{
+    let (calls, at) = read_calls(alloc, valid_front(bytes))?;
+    if (at as usize) < bytes.len() {
+        return Err(ScriptError::Syntax {
+            line: line_behind(&bytes[..at as usize]),
+        });
+    }
+    Ok(Script { calls })
+}
+
+// Whether bytes end in another byte than a line feed.
+fn lacks_end(bytes: &[u8]) -> bool
+    ensures { with_end bytes.now ≡ (if result then bytes.now ++ 10 ∷ [] else bytes.now) }
+{
+    match bytes.last() {
+        Some(last) => *last != b'\n',
+        None => false,
+    }
+}
+
+/// Adds a line feed behind bytes that do not end in one; no bytes stay none.
+///
+/// # Errors
+///
+/// Where no memory is left, the bytes stay as they were.
+pub fn end_last_line(bytes: &mut Vec<u8>) -> Result<(), AllocError>
+    ensures ended { OnOk result (bytes.new.items ≡ with_end bytes.old.items) }
+    ensures len { OnOk result (vec_len bytes.new ≤ vec_len bytes.old + 1) }
+    ensures kept { OnErr result (bytes.new.items ≡ bytes.old.items) }
+{
+    if !lacks_end(bytes) {
+        return Ok(());
+    }
+    bytes.push(b'\n')?;
+    Ok(())
+}
+
+/// Reads a script of at most [`MOST`] bytes, whose last line may lack its line feed.
+///
+/// # Errors
+///
+/// [`ScriptError::Syntax`] with the line of the first broken item, exactly where the bytes are no script;
+/// [`ScriptError::Memory`] where no memory is left.
+pub fn read_script(alloc: Global, bytes: &[u8]) -> Result<Script, ScriptError>
+    requires { length bytes.now ≤ MOST }
+    ensures script { IfOk result (λ script. IsScript bytes.now script.calls.items) }
+    ensures fault { FaultIs result bytes.now }
+{
+    let mut ended = bytes.to_vec(alloc)?;
+    end_last_line(&mut ended)?;
+    read_ended(alloc, &ended)
+}
+
+#[cfg(test)]
+mod tests {
+    use super::*;
+    use hir_lower::Call;
+    use std::test::Fail;
+
+    // The texts of the calls, one a line; or the line of the fault.
+    fn told(alloc: Global, bytes: &[u8]) -> Result<String, ScriptError>
+        requires { length bytes.now ≤ MOST }
+    {
+        let mut text = String::new(alloc);
+        match read_script(alloc, bytes) {
+            Ok(script) => {
+                for call in &script.calls {
+                    let Call::Format(format) = &call.call;
+                    text.push_str(format.template.as_str())?;
+                    text.push('\n')?;
+                }
+            }
+            Err(ScriptError::Syntax { line }) => text = format!(in alloc; "line {line}")?,
+            Err(ScriptError::Memory(error)) => return Err(ScriptError::Memory(error)),
+        }
+        Ok(text)
+    }
+
+    #[test]
+    fn reads_scripts(rt: HostRuntime) -> Result<(), Fail> {
+        let cases: [(&[u8], &str); 12] = [
+            (b"", ""),
+            (b"\n", ""),
+            (b"format \"hi\"", "hi\n"),
+            (b" \t format\t\"a\" \r\n", "a\n"),
+            (b"format\"\"\nformat \"{{}}\"\n", "\n{{}}\n"),
+            (b"format \"h\xc3\xa9\"", "hé\n"),
+            (b"\n\n\xff", "line 3"),
+            (b"opt a\nformat \"a", "line 1"),
+            (b"format \"a\"\nformat \"{\"\n", "line 2"),
+            (b"format \"{}\"", "line 1"),
+            (b"format \"a\\n\"", "line 1"),
+            (b"format \"a\" b", "line 1"),
+        ];
+        for (bytes, want) in cases {
+            assert_eq!(rt; told(rt.alloc(), bytes)?.as_str(), want, "at {bytes:?}");
+        }
+        assert!(rt;
+            matches!(
+                read_ended(rt.alloc(), b"format \"a\""),
+                Err(ScriptError::Syntax { line: 1 })
+            ),
+            "a last line without its end"
+        );
+        Ok(())
+    }
+}

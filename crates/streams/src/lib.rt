@@ -1,0 +1,15 @@
+//! The outside of a program: sources of bytes, sinks for bytes, and reading and writing as a whole.
+//! Each answer that blames the outside has its cause in a count of faults.
+#![tactic(auto)]
+
+mod exchange;
+mod memory;
+mod sink;
+mod source;
+mod std_streams;
+
+pub use exchange::{ReadRefused, read_whole, write_whole};
+pub use memory::{MemSink, MemSource};
+pub use sink::{Sink, WriteFailed};
+pub use source::{ReadFailed, Source};
+pub use std_streams::{StdSink, StdSource};

@@ -1,0 +1,8 @@
+/// A range of a text, in bytes from its begin: from `start` up to and without `end`.
+#[derive(Clone, Copy, PartialEq, Eq, Hash, Debug)]
+pub struct TextRange {
+    /// The offset of the first byte.
+    pub start: u32,
+    /// The offset behind the last byte.
+    pub end: u32,
+}

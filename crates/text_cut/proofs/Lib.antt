@@ -1,0 +1,10 @@
+pub mod Lists
+pub mod Options
+pub mod Sizes
+pub mod Chars
+pub mod Runs
+pub mod Rules
+pub mod Behind
+pub mod Pieces
+pub mod Longer
+pub mod SoFar

@@ -1,0 +1,5 @@
+pub mod Runs
+pub mod Place
+pub mod Rules
+pub mod Reading
+pub mod Seen
