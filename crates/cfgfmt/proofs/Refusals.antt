@@ -1,16 +1,19 @@
 -- What a refusal is told by, and what it comes of.
-use Rattle.std.specs.Prelude.{◌≡◌, ◌⊎◌, ℕ, ◌≤◌, false, List, [], length, Option, Err}
+use Rattle.std.specs.Prelude.{true, ◌≡◌, ◌⊎◌, ℕ, ◌≤◌, false, List, [], length, Option, Err, ◌<◌, IfSome, Some, None}
 use Rattle.std.proofs.Common.{sym, subst, ◌∙◌, inl, inr, arith}
 use Rattle.std.proofs.lemmas.Bool.{true≢false}
 use Rattle.script.specs.declared.script.ScriptError.{ScriptError}
 use Rattle.script.specs.declared.script.ScriptError.TheVariants as error
 use Rattle.streams.specs.Exchange.{AppendsPart}
 use Rattle.script.specs.Fault.{BreakIs}
-use Rattle.script.specs.Script.{with_end}
+use Rattle.script.specs.Script.{IsScript, with_end}
 use Rattle.cfgfmt.specs.declared.session.Session.{Session}
 use Rattle.cfgfmt.specs.declared.refusal.Refusal.{Refusal}
 use Rattle.cfgfmt.specs.declared.refusal.Refusal.TheVariants.{Usage, Syntax, Read, Memory, ArenaFull, TooLong}
-use Rattle.cfgfmt.specs.Refusal.{is_reading_form, line_of, HasCause, IsLowerRefusal, refusal_of}
+use Rattle.ra_cfg.specs.Options.{Options}
+use Rattle.hir_lower.specs.declared.call.GatedCall.{GatedCall}
+use Rattle.hir_lower.specs.Lowered.{most_exprs}
+use Rattle.cfgfmt.specs.Refusal.{IsFullRefusal, Outgrows, is_reading_form, line_of, HasCause, IsLowerRefusal, refusal_of}
 use Rattle.cfgfmt.specs.Run.{IsSent, TellsOf, WritesPart, WritesPartOfLine}
 
 -- bytes that were not read are refused because of the bytes
@@ -60,3 +63,18 @@ module _ (words : List (List ℕ)) (left left_now : Option (List ℕ)) (faults f
       by_refusal Memory cause told = record { refusal = Memory; cause = cause; part = sent_part 6 result (line_of Memory) (λ e. omega (arith, e)) five told; outcomes = none }
       by_refusal ArenaFull cause told = record { refusal = ArenaFull; cause = cause; part = sent_part 8 result (line_of ArenaFull) (λ e. omega (arith, e)) five told; outcomes = none }
       by_refusal TooLong cause told = record { refusal = TooLong; cause = cause; part = sent_part 9 result (line_of TooLong) (λ e. omega (arith, e)) five told; outcomes = none }
+
+-- a refusal of lowering has its cause in the calls of the script
+pub full_cause : (words : List (List ℕ)) (left left_now : Option (List ℕ)) (faults faults_now : ℕ) (bytes : List ℕ) (options : Options) (calls : List GatedCall) (refusal : Refusal)
+    → is_reading_form words ≡ true → IfSome left (λ all. all ≡ bytes) → length bytes ≤ 16777216 → IsScript bytes options calls
+    → IsFullRefusal (4294967295 < most_exprs options calls) refusal → HasCause words left left_now faults faults_now refusal
+full_cause words left left_now faults faults_now bytes options calls Memory right all fits script full = right
+full_cause words left left_now faults faults_now bytes options calls ArenaFull right all fits script full = (right, of_left left all)
+  where
+    of_left : (left : Option (List ℕ)) → IfSome left (λ all. all ≡ bytes) → IfSome left Outgrows
+    of_left None all = tt
+    of_left (Some same) all = subst Outgrows (sym all) (record { fits = fits; options = options; calls = calls; script = script; many = full })
+full_cause words left left_now faults faults_now bytes options calls (Syntax line) right all fits script full = absurd full
+full_cause words left left_now faults faults_now bytes options calls Usage right all fits script full = absurd full
+full_cause words left left_now faults faults_now bytes options calls Read right all fits script full = absurd full
+full_cause words left left_now faults faults_now bytes options calls TooLong right all fits script full = absurd full

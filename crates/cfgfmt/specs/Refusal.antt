@@ -3,6 +3,7 @@ use Rattle.std.specs.Prelude.{◌≡◌, ℕ, ◌<◌, ◌≤◌, length, Bool, 
 use Rattle.std.specs.Str.{bytes_eq}
 use Rattle.std.specs.Fmt.{decimal}
 use Rattle.hir_lower.specs.declared.call.GatedCall.{GatedCall}
+use Rattle.ra_cfg.specs.Options.{Options}
 use Rattle.hir_lower.specs.Lowered.{most_exprs}
 use Rattle.causes.specs.Causes.{Rose}
 use Rattle.streams.specs.Exchange.{TakesCount}
@@ -43,9 +44,10 @@ pub record IsFaulty (bytes : List ℕ) (line : ℕ) : Type 0 where
 -- the calls of the script place more expressions than an arena holds
 pub record Outgrows (bytes : List ℕ) : Type 0 where
   pub fits : length bytes ≤ 16777216
+  pub options : Options
   pub calls : List GatedCall
-  pub script : IsScript bytes calls
-  pub many : 4294967295 < most_exprs calls
+  pub script : IsScript bytes options calls
+  pub many : 4294967295 < most_exprs options calls
 
 -- why a refusal comes: what the words are, what the source had left and has left, and its counts of faults. Want of memory is free, but for the words.
 abbrev pub HasCause : List (List ℕ) → Option (List ℕ) → Option (List ℕ) → ℕ → ℕ → Refusal → Type 0

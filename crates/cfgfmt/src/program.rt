@@ -48,7 +48,7 @@ fn read_input<S: Source>(alloc: Global, source: &mut S) -> Result<Vec<u8>, Refus
 // Reads the script that bytes are.
 fn read_bytes(alloc: Global, mut bytes: Vec<u8>) -> Result<Script, Refusal>
     requires { vec_len bytes ≤ 16_777_216 }
-    ensures script { IfOk result (λ script. IsScript bytes.items script.calls.items) }
+    ensures script { IfOk result (λ script. IsScript bytes.items script.options script.calls.items) }
     ensures refused { IfErr result (IsLowerRefusal bytes.items) }
 {
     match end_last_line(&mut bytes) {
@@ -72,15 +72,17 @@ fn refusal_of(error: ScriptError) -> Refusal
 }
 
 // Lowers the calls of a script into the session, and prints what becomes of them.
-fn lower(alloc: Global, script: &Script, session: &mut Session) -> Result<Vec<u8>, Refusal>
+fn lower(alloc: Global, script: Script, session: &mut Session) -> Result<Vec<u8>, Refusal>
     requires { session.old.outcomes.items ≡ [] }
-    ensures outcomes { OnOk result (AreOutcomes session.new.collector.store script.now.calls.items session.new.outcomes.items) }
+    ensures options { OnOk result (session.new.options ≡ script.options) }
+    ensures outcomes { OnOk result (AreOutcomes script.options session.new.collector.store script.calls.items session.new.outcomes.items) }
     ensures printed { IfOk result (λ output. output.items ≡ output_of session.new) }
     ensures none { OnErr result (session.new.outcomes.items ≡ []) }
-    ensures refused { IfErr result (λ refusal. IsFullRefusal (4_294_967_295 < most_exprs script.now.calls.items) refusal) }
+    ensures refused { IfErr result (IsFullRefusal (4_294_967_295 < most_exprs script.options script.calls.items)) }
 {
+    let Script { options, calls } = script;
     let mut collector = ExprCollector::new(alloc);
-    let outcomes = match collector.collect_gated(alloc, &script.calls) {
+    let outcomes = match collector.collect_gated(alloc, &calls, &options) {
         Ok(outcomes) => outcomes,
         Err(LowerError::Memory(_)) => return Err(Refusal::Memory),
         Err(LowerError::ArenaFull) => return Err(Refusal::ArenaFull),
@@ -90,6 +92,7 @@ fn lower(alloc: Global, script: &Script, session: &mut Session) -> Result<Vec<u8
         Err(_) => return Err(Refusal::Memory),
     };
     session.collector = collector;
+    session.options = options;
     session.outcomes = outcomes;
     Ok(output)
 }
@@ -116,7 +119,7 @@ fn answer<S: Source>(
     }
     let bytes = read_input(alloc, source)?;
     let script = read_bytes(alloc, bytes)?;
-    let output = lower(alloc, &script, session)?;
+    let output = lower(alloc, script, session)?;
     Ok(output)
 }
 

@@ -1,13 +1,16 @@
 ghost use Rattle.std.specs.Prelude.{IfOk};
 
 use hir_lower::{ExprCollector, Outcome};
+use ra_cfg::CfgOptions;
 use std::alloc::{AllocError, Global};
 
-/// What a run leaves: the store with the code of the calls, and what became of each call.
+/// What a run leaves: the options of the script, the store with the code of its calls, and what became of each call.
 #[derive(Drop)]
 pub struct Session {
     /// The collector that lowered the calls, with its store.
     pub collector: ExprCollector,
+    /// The options under which the calls were lowered.
+    pub options: CfgOptions,
     /// What became of the calls, in order.
     pub outcomes: Vec<Outcome>,
 }
@@ -15,7 +18,7 @@ pub struct Session {
 impl Session {
     ghost use Rattle.cfgfmt.specs.Session.{IsNew};
 
-    /// A new session: an empty store, and no outcome.
+    /// A new session: an empty store, the flag `true` alone, and no outcome.
     ///
     /// # Errors
     ///
@@ -25,6 +28,7 @@ impl Session {
     {
         Ok(Session {
             collector: ExprCollector::new(alloc),
+            options: CfgOptions::new(alloc)?,
             outcomes: Vec::new(alloc),
         })
     }

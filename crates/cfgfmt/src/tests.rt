@@ -26,7 +26,7 @@ fn run_over(
 
 #[test]
 fn answers_scripts(rt: HostRuntime) -> Result<(), Fail> {
-    let cases: [(&str, &[u8], &str, usize); 6] = [
+    let cases: [(&str, &[u8], &str, usize); 11] = [
         (
             "",
             b"format \"hi\"",
@@ -58,6 +58,39 @@ fn answers_scripts(rt: HostRuntime) -> Result<(), Fail> {
             "0 code Arguments::from_str(s\"\")\n",
             1,
         ),
+        (
+            "",
+            b"opt a\ncfg a\nformat \"x\"\ncfg b\nformat \"q\"\n",
+            "0 code Arguments::from_str(s\"78\")\n1 off\n",
+            2,
+        ),
+        // An option counts wherever it stands, and a predicate behind the last call has no effect.
+        (
+            "",
+            b"cfg a\nformat \"x\"\nopt a\ncfg b",
+            "0 code Arguments::from_str(s\"78\")\n",
+            1,
+        ),
+        // Each predicate by itself, and for the next call alone.
+        (
+            "",
+            b"opt a\ncfg a\ncfg b\nformat \"x\"\nformat \"y\"\ncfg a\ncfg a\nformat \"z\"",
+            "0 off\n1 code Arguments::from_str(s\"79\")\n2 code Arguments::from_str(s\"7A\")\n",
+            3,
+        ),
+        // `true` is set without any option, and nothing sets `false`.
+        (
+            "",
+            b"cfg true\nformat \"x\"\ncfg false\nformat \"y\"",
+            "0 code Arguments::from_str(s\"78\")\n1 off\n",
+            2,
+        ),
+        (
+            "",
+            b"opt true\nopt false\ncfg true\nformat \"x\"\ncfg false\nformat \"y\"",
+            "0 code Arguments::from_str(s\"78\")\n1 off\n",
+            2,
+        ),
     ];
     for (words, bytes, want, calls) in cases {
         let bytes = Vec::from_slice(rt.alloc(), bytes)?;
@@ -82,7 +115,7 @@ fn tells_each_refusal(rt: HostRuntime) -> Result<(), Fail> {
             &[],
             &[],
             3,
-            "error syntax at line 1\n",
+            "error syntax at line 2\n",
             0,
         ),
         // The source fails where it would tell its end.

@@ -1,3 +1,6 @@
 pub mod Characters
 pub mod Codes
 pub mod Outcomes
+pub mod RunsOnce
+pub mod ReadsBack
+mod FormatExamples

@@ -7,6 +7,7 @@ use Rattle.hir_store.specs.declared.store.ExpressionStore.{ExpressionStore}
 use Rattle.hir_store.specs.Unfolding.{place_of}
 use Rattle.hir_store.specs.Store.{Grows, IsPlaced}
 use Rattle.hir_store.proofs.Grown.{stays, within_later}
+use Rattle.ra_cfg.specs.Options.{Options}
 use Rattle.code_meaning.specs.Value.{Event}
 use Rattle.code_meaning.specs.Evaluation.{evaluation_of}
 use Rattle.code_meaning.specs.Meaning.{Writes}
@@ -14,8 +15,8 @@ use Rattle.hir_lower.specs.declared.call.GatedCall.{GatedCall}
 use Rattle.hir_lower.specs.declared.call.Call.{Call}
 use Rattle.hir_lower.specs.declared.call.Call.TheVariants.{Format}
 use Rattle.hir_lower.specs.declared.call.Outcome.{Outcome}
-use Rattle.hir_lower.specs.declared.call.Outcome.TheVariants.{Code}
-use Rattle.hir_lower.specs.Lowered.{Runs, IsCode, IsOutcome, AreOutcomes, AreRising, AreInStore, most_of, most_exprs}
+use Rattle.hir_lower.specs.declared.call.Outcome.TheVariants.{Off, Code}
+use Rattle.hir_lower.specs.Lowered.{Runs, IsCode, IsOutcome, AreOutcomes, AreRising, IsFrom, IsInStore, AreInStore, most_of, most_exprs}
 
 module _ (old new : ExpressionStore) (placed : IsPlaced old) (grows : Grows old new) where
   runs_later : (id : ExprId) (events : List Event) (writes : Writes) → Runs old id events writes → Runs new id events writes
@@ -32,49 +33,63 @@ module _ (old new : ExpressionStore) (placed : IsPlaced old) (grows : Grows old 
     empty = λ none. runs_later id _ _ (code.empty none);
   }
 
-  outcome_later : (call : GatedCall) (outcome : Outcome) → IsOutcome old call outcome → IsOutcome new call outcome
-  outcome_later call (Code id) code = code_later call.call id code
+  outcome_later : (options : Options) (call : GatedCall) (outcome : Outcome) → IsOutcome options old call outcome → IsOutcome options new call outcome
+  outcome_later options call Off off = off
+  outcome_later options call (Code id) code = (code.0, code_later call.call id code.1)
 
-  pub outcomes_later : (calls : List GatedCall) (outcomes : List Outcome) → AreOutcomes old calls outcomes → AreOutcomes new calls outcomes
-  outcomes_later [] [] are = tt
-  outcomes_later [] (outcome ∷ outcomes) are = are
-  outcomes_later (call ∷ calls) [] are = are
-  outcomes_later (call ∷ calls) (outcome ∷ outcomes) are = (outcome_later call outcome are.0, outcomes_later calls outcomes are.1)
+  pub outcomes_later : (options : Options) (calls : List GatedCall) (outcomes : List Outcome) → AreOutcomes options old calls outcomes → AreOutcomes options new calls outcomes
+  outcomes_later options [] [] are = tt
+  outcomes_later options [] (outcome ∷ outcomes) are = are
+  outcomes_later options (call ∷ calls) [] are = are
+  outcomes_later options (call ∷ calls) (outcome ∷ outcomes) are = (outcome_later options call outcome are.0, outcomes_later options calls outcomes are.1)
+
+  in_store_later_one : (outcome : Outcome) → IsInStore old outcome → IsInStore new outcome
+  in_store_later_one Off is = tt
+  in_store_later_one (Code id) is = within_later old new id grows is
 
   pub in_store_later : (outcomes : List Outcome) → AreInStore old outcomes → AreInStore new outcomes
   in_store_later [] are = tt
-  in_store_later (Code id ∷ outcomes) are = (within_later old new id grows are.0, in_store_later outcomes are.1)
+  in_store_later (outcome ∷ outcomes) are = (in_store_later_one outcome are.0, in_store_later outcomes are.1)
 
-pub outcomes_on : (store : ExpressionStore) (calls : List GatedCall) (outcomes : List Outcome) (call : GatedCall) (outcome : Outcome) → AreOutcomes store calls outcomes → IsOutcome store call outcome → AreOutcomes store (calls ++ call ∷ []) (outcomes ++ outcome ∷ [])
-outcomes_on store [] [] call outcome are is = (is, tt)
-outcomes_on store [] (other ∷ outcomes) call outcome are is = absurd are
-outcomes_on store (other ∷ calls) [] call outcome are is = absurd are
-outcomes_on store (other ∷ calls) (next ∷ outcomes) call outcome are is = (are.0, outcomes_on store calls outcomes call outcome are.1 is)
+pub outcomes_on : (options : Options) (store : ExpressionStore) (calls : List GatedCall) (outcomes : List Outcome) (call : GatedCall) (outcome : Outcome) → AreOutcomes options store calls outcomes → IsOutcome options store call outcome → AreOutcomes options store (calls ++ call ∷ []) (outcomes ++ outcome ∷ [])
+outcomes_on options store [] [] call outcome are is = (is, tt)
+outcomes_on options store [] (other ∷ outcomes) call outcome are is = absurd are
+outcomes_on options store (other ∷ calls) [] call outcome are is = absurd are
+outcomes_on options store (other ∷ calls) (next ∷ outcomes) call outcome are is = (are.0, outcomes_on options store calls outcomes call outcome are.1 is)
 
-pub in_store_on : (store : ExpressionStore) (outcomes : List Outcome) (id : ExprId) → AreInStore store outcomes → place_of id < length store.exprs → AreInStore store (outcomes ++ Code id ∷ [])
-in_store_on store [] id are within = (within, tt)
-in_store_on store (Code other ∷ outcomes) id are within = (are.0, in_store_on store outcomes id are.1 within)
+pub in_store_on : (store : ExpressionStore) (outcomes : List Outcome) (outcome : Outcome) → AreInStore store outcomes → IsInStore store outcome → AreInStore store (outcomes ++ outcome ∷ [])
+in_store_on store [] outcome are within = (within, tt)
+in_store_on store (other ∷ outcomes) outcome are within = (are.0, in_store_on store outcomes outcome are.1 within)
 
-pub rising_on : (store : ExpressionStore) (least : ℕ) (outcomes : List Outcome) (id : ExprId) → AreRising least outcomes → AreInStore store outcomes → least ≤ place_of id → length store.exprs ≤ place_of id → AreRising least (outcomes ++ Code id ∷ [])
-rising_on store least [] id are within above behind = (above, tt)
-rising_on store least (Code other ∷ outcomes) id are within above behind = (are.0, rising_on store (suc (place_of other)) outcomes id are.1 within.1 (omega (arith, within.0)) behind)
+-- a lower bound may be lowered
+pub from_lower : (least most : ℕ) (outcome : Outcome) → least ≤ most → IsFrom most outcome → IsFrom least outcome
+from_lower least most Off le from = tt
+from_lower least most (Code id) le from = omega (arith, le, from)
 
-pub most_on : (calls : List GatedCall) (call : GatedCall) → most_exprs (calls ++ call ∷ []) ≡ most_exprs calls + most_of call
-most_on [] call = refl
-most_on (other ∷ calls) call = ap (λ n. most_of other + n) (most_on calls call) ∙ sym (add_assoc (most_of other) (most_exprs calls) (most_of call))
+-- a code from a place on rises above those in front of that place
+pub rising_on : (store : ExpressionStore) (least : ℕ) (outcomes : List Outcome) (outcome : Outcome) → AreRising least outcomes → AreInStore store outcomes → IsFrom least outcome → IsFrom (length store.exprs) outcome → AreRising least (outcomes ++ outcome ∷ [])
+rising_on store least [] Off are within above behind = tt
+rising_on store least [] (Code id) are within above behind = (above, tt)
+rising_on store least (Off ∷ outcomes) outcome are within above behind = rising_on store least outcomes outcome are within.1 above behind
+rising_on store least (Code other ∷ outcomes) outcome are within above behind = (are.0, rising_on store (suc (place_of other)) outcomes outcome are.1 within.1 (from_lower _ _ outcome (omega (arith, within.0)) behind) behind)
 
-pub most_take : (n : ℕ) (calls : List GatedCall) → most_exprs (take n calls) ≤ most_exprs calls
-most_take zero calls = omega arith
-most_take (suc n) [] = omega arith
-most_take (suc n) (call ∷ calls) = let h = most_take n calls in omega arith
+-- the calls' most
+pub most_on : (options : Options) (calls : List GatedCall) (call : GatedCall) → most_exprs options (calls ++ call ∷ []) ≡ most_exprs options calls + most_of options call
+most_on options [] call = omega arith
+most_on options (other ∷ calls) call = ap (λ n. most_of options other + n) (most_on options calls call) ∙ sym (add_assoc (most_of options other) (most_exprs options calls) (most_of options call))
+
+pub most_take : (options : Options) (n : ℕ) (calls : List GatedCall) → most_exprs options (take n calls) ≤ most_exprs options calls
+most_take options zero calls = omega arith
+most_take options (suc n) [] = omega arith
+most_take options (suc n) (call ∷ calls) = let h = most_take options n calls in omega arith
 
 -- one call more of a list
 pub next_call : (calls : List GatedCall) (i : ℕ) (call : GatedCall) → i < length calls → call ≡ get_or calls i call → take (i + 1) calls ≡ take i calls ++ call ∷ []
 next_call calls i call lt is = take_more calls i call lt ∙ ap (λ (x : GatedCall). take i calls ++ x ∷ []) (sym is)
 
 -- the calls so far and one more take no more than all
-pub most_next : (calls : List GatedCall) (i : ℕ) (call : GatedCall) → take (i + 1) calls ≡ take i calls ++ call ∷ [] → most_exprs (take i calls) + most_of call ≤ most_exprs calls
-most_next calls i call next = let e = most_take (i + 1) calls in let f = ap most_exprs next ∙ most_on (take i calls) call in omega arith
+pub most_next : (options : Options) (calls : List GatedCall) (i : ℕ) (call : GatedCall) → take (i + 1) calls ≡ take i calls ++ call ∷ [] → most_exprs options (take i calls) + most_of options call ≤ most_exprs options calls
+most_next options calls i call next = let e = most_take options (i + 1) calls in let f = ap (most_exprs options) next ∙ most_on options (take i calls) call in omega arith
 
 -- a store that grew is no shorter
 pub longer : (old new : ExpressionStore) → Grows old new → length old.exprs ≤ length new.exprs

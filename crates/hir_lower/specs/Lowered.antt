@@ -1,6 +1,6 @@
--- What the outcomes of calls are: for each call, in order, code whose evaluation runs through and whose value means the writes of
--- the call's text.
-use Rattle.std.specs.Prelude.{◌≡◌, ℕ, ◌+◌, ◌<◌, ◌≤◌, suc, List, [], ◌∷◌, length, Some}
+-- What the outcomes of calls are: each call is off exactly where one of its predicates reads false; else it has code whose evaluation
+-- runs through and whose value means the writes of the call's text.
+use Rattle.std.specs.Prelude.{◌≡◌, ℕ, ◌+◌, ◌<◌, ◌≤◌, Bool, true, false, cond, suc, List, [], ◌∷◌, length, Some}
 use Rattle.hir_store.specs.declared.ids.ExprId.{ExprId}
 use Rattle.hir_store.specs.declared.store.ExpressionStore.{ExpressionStore}
 use Rattle.hir_store.specs.Unfolding.{place_of, tree_at}
@@ -8,12 +8,14 @@ use Rattle.code_meaning.specs.Write.{Piece, writes_of}
 use Rattle.code_meaning.specs.Value.{Event, Value, At}
 use Rattle.code_meaning.specs.Evaluation.{evaluation_of}
 use Rattle.code_meaning.specs.Meaning.{Writes, meaning}
+use Rattle.ra_cfg.specs.Options.{Options}
+use Rattle.ra_cfg.specs.Reading.{is_off}
 use Rattle.hir_lower.specs.declared.call.GatedCall.{GatedCall}
 use Rattle.hir_lower.specs.declared.call.Call.{Call}
 use Rattle.hir_lower.specs.declared.call.Call.TheVariants.{Format}
 use Rattle.hir_lower.specs.declared.call.FormatCall.{FormatCall}
 use Rattle.hir_lower.specs.declared.call.Outcome.{Outcome}
-use Rattle.hir_lower.specs.declared.call.Outcome.TheVariants.{Code}
+use Rattle.hir_lower.specs.declared.call.Outcome.TheVariants.{Off, Code}
 use Rattle.hir_lower.specs.Pieces.{HasPieces}
 
 -- the code at this place is evaluated with these events, and its value means these writes
@@ -32,24 +34,32 @@ pub record IsFormatCode (store : ExpressionStore) (call : FormatCall) (id : Expr
 abbrev pub IsCode : ExpressionStore → Call → ExprId → Type 0
 IsCode store (Format call) id = IsFormatCode store call id
 
--- what becomes of a call
-abbrev pub IsOutcome : ExpressionStore → GatedCall → Outcome → Type 0
-IsOutcome store call (Code id) = IsCode store call.call id
+-- what becomes of a call under options: off exactly where one of its predicates, each by itself, reads false; else code
+abbrev pub IsOutcome : Options → ExpressionStore → GatedCall → Outcome → Type 0
+IsOutcome options store call Off = is_off options call.cfgs ≡ true
+IsOutcome options store call (Code id) = (is_off options call.cfgs ≡ false) × IsCode store call.call id
 
 -- one outcome for each call, in order
-abbrev pub AreOutcomes : ExpressionStore → List GatedCall → List Outcome → Type 0
-AreOutcomes store [] [] = Unit {0}
-AreOutcomes store [] (outcome ∷ outcomes) = ⊥
-AreOutcomes store (call ∷ calls) [] = ⊥
-AreOutcomes store (call ∷ calls) (outcome ∷ outcomes) = IsOutcome store call outcome × AreOutcomes store calls outcomes
+abbrev pub AreOutcomes : Options → ExpressionStore → List GatedCall → List Outcome → Type 0
+AreOutcomes options store [] [] = Unit {0}
+AreOutcomes options store [] (outcome ∷ outcomes) = ⊥
+AreOutcomes options store (call ∷ calls) [] = ⊥
+AreOutcomes options store (call ∷ calls) (outcome ∷ outcomes) = IsOutcome options store call outcome × AreOutcomes options store calls outcomes
 
 -- the places of the codes rise strictly, and none is below the least
 abbrev pub AreRising : ℕ → List Outcome → Type 0
 AreRising least [] = Unit {0}
+AreRising least (Off ∷ outcomes) = AreRising least outcomes
 AreRising least (Code id ∷ outcomes) = (least ≤ place_of id) × AreRising (suc (place_of id)) outcomes
+
+-- the code of an outcome is at this place or behind it
+abbrev pub IsFrom : ℕ → Outcome → Type 0
+IsFrom least Off = Unit {0}
+IsFrom least (Code id) = least ≤ place_of id
 
 -- the code of an outcome is in the store
 abbrev pub IsInStore : ExpressionStore → Outcome → Type 0
+IsInStore store Off = Unit {0}
 IsInStore store (Code id) = place_of id < length store.exprs
 
 -- each code of the outcomes is in the store
@@ -57,11 +67,11 @@ abbrev pub AreInStore : ExpressionStore → List Outcome → Type 0
 AreInStore store [] = Unit {0}
 AreInStore store (outcome ∷ outcomes) = IsInStore store outcome × AreInStore store outcomes
 
--- the most expressions that the code of a call takes
-abbrev pub most_of : GatedCall → ℕ
-most_of call = 9
+-- the most expressions that a call places: none where it is off
+abbrev pub most_of : Options → GatedCall → ℕ
+most_of options call = cond (is_off options call.cfgs) 0 9
 
--- the most expressions that the codes of calls take
-abbrev pub most_exprs : List GatedCall → ℕ
-most_exprs [] = 0
-most_exprs (call ∷ calls) = most_of call + most_exprs calls
+-- the most expressions that calls place
+abbrev pub most_exprs : Options → List GatedCall → ℕ
+most_exprs options [] = 0
+most_exprs options (call ∷ calls) = most_of options call + most_exprs options calls

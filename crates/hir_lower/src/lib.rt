@@ -6,9 +6,11 @@ mod call;
 mod collector;
 mod error;
 mod format_args;
+mod laws;
 #[cfg(test)]
 mod tests;
 
 pub use call::{Call, FormatCall, GatedCall, Outcome};
 pub use collector::ExprCollector;
 pub use error::LowerError;
+pub use laws::code_runs_once;

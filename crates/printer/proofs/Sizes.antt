@@ -1,5 +1,9 @@
 -- How large a tree is: a number that each of its parts has less of.
 use Rattle.std.specs.Prelude.{ℕ, ◌+◌}
+use Rattle.hir_store.specs.declared.expr.Statement.{Statement}
+use Rattle.hir_store.specs.declared.expr.Statement.TheVariants as statement
+use Rattle.hir_store.specs.declared.store.ExpressionStore.{ExpressionStore}
+use Rattle.hir_store.specs.Unfolding.{tree_at}
 use Rattle.hir_store.specs.Tree.{Tree, Trees, Steps, Bad, Missing, Leaf, Path, LangPath, Text, Bytes, Ref, Tuple, Field, Array, Call, Block, Empty, More, End, Tail, Let, Nameless, Do}
 
 -- how many expressions and statements a tree has
@@ -29,3 +33,8 @@ abbrev mutual
   steps_size (Let name t steps) = tree_size t + steps_size steps + 1
   steps_size (Nameless t steps) = tree_size t + steps_size steps + 1
   steps_size (Do t steps) = tree_size t + steps_size steps + 1
+
+-- how large the tree of a statement is
+abbrev pub statement_size : ExpressionStore → Statement → ℕ
+statement_size store (statement.Let pat id) = tree_size (tree_at store id)
+statement_size store (statement.Expr id) = tree_size (tree_at store id)

@@ -12,7 +12,7 @@ use Rattle.hir_store.specs.declared.store.ExpressionStore.{ExpressionStore}
 use Rattle.hir_store.specs.Tree.{Tree, Trees, Steps, Bad, Missing, Leaf, Path, LangPath, Text, Bytes, Ref, Tuple, Field, Array, Call, Block, Empty, More, End, Tail, Let, Nameless, Do}
 use Rattle.hir_store.specs.Unfolding.{tree_at}
 use Rattle.hir_lower.specs.declared.call.Outcome.{Outcome}
-use Rattle.hir_lower.specs.declared.call.Outcome.TheVariants.{Code}
+use Rattle.hir_lower.specs.declared.call.Outcome.TheVariants.{Off, Code}
 
 -- what a language item is printed as
 abbrev pub item_word : LangItem → List ℕ
@@ -97,8 +97,9 @@ abbrev mutual
   steps_text (Nameless t steps) = let_text [] (text_of t) ++ steps_text steps
   steps_text (Do t steps) = text_of t ++ codes "; " ++ steps_text steps
 
--- the line of the call with this number: the number, `code`, the text of its code, LF
+-- the line of the call with this number: the number, and `off`, or `code` and the text of its code; LF
 abbrev pub outcome_line : ExpressionStore → ℕ → Outcome → List ℕ
+outcome_line store number Off = decimal number ++ codes " off\n"
 outcome_line store number (Code id) = decimal number ++ codes " code " ++ text_of (tree_at store id) ++ codes "\n"
 
 -- the lines of calls whose numbers rise by one from the first

@@ -2,6 +2,7 @@ ghost use Rattle.std.specs.Prelude.{◌≡◌, ◌++◌, Some, IsTrue, OnOk, is_
 ghost use Rattle.hir_store.specs.Tree.{Tuple, Array, Call, Block, is_whole, all_whole, steps_whole};
 ghost use Rattle.hir_store.specs.Unfolding.{tree_at, tree_over, trees_of, steps_of, tail_step, name_in};
 ghost use Rattle.printer.specs.Printed.{text_of, texts_of, later_texts, steps_text, let_text, bound_text};
+ghost use Rattle.printer.specs.Statements.{statement_text, StatementIsWhole};
 
 use crate::words::{function_word, item_word, push_literal};
 use hir_store::{Expr, ExprId, ExpressionStore, Pat, PatId, Statement};
@@ -160,16 +161,27 @@ fn push_steps(
     requires { IsTrue (steps_whole (steps_of (name_in store.now) (tree_at store.now) statements.now tail)) }
     ensures { OnOk result (string_bytes out.new ≡ string_bytes out.old ++ steps_text (steps_of (name_in store.now) (tree_at store.now) statements.now tail)) }
 {
-    match statements {
-        [] => push_tail(out, store, tail),
-        [Statement::Let { pat, initializer }, rest @ ..] => {
-            push_let(out, store, *pat, *initializer)?;
-            push_steps(out, store, rest, tail)
-        }
-        [Statement::Expr(id), rest @ ..] => {
-            push_expr(out, store, *id)?;
-            out.push_str("; ")?;
-            push_steps(out, store, rest, tail)
+    for statement in statements {
+        push_statement(out, store, *statement)?;
+    }
+    push_tail(out, store, tail)
+}
+
+/// Writes a statement, and a space.
+#[cycle(printing)]
+fn push_statement(
+    out: &mut String,
+    store: &ExpressionStore,
+    statement: Statement,
+) -> Result<(), AllocError>
+    requires { StatementIsWhole store.now statement }
+    ensures { OnOk result (string_bytes out.new ≡ string_bytes out.old ++ statement_text store.now statement) }
+{
+    match statement {
+        Statement::Let { pat, initializer } => push_let(out, store, pat, initializer),
+        Statement::Expr(id) => {
+            push_expr(out, store, id)?;
+            out.push_str("; ")
         }
     }
 }

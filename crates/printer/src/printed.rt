@@ -40,6 +40,10 @@ fn push_outcome(
     ensures { OnOk result (string_bytes out.new ≡ string_bytes out.old ++ outcome_line store.now number outcome.now) }
 {
     match outcome {
+        Outcome::Off => {
+            writeln!(out, "{number} off")?;
+            Ok(())
+        }
         Outcome::Code(id) => {
             write!(out, "{number} code ")?;
             push_expr(out, store, *id)?;

@@ -1,4 +1,4 @@
--- Calls item by item: how the reading begins, goes on, ends and stops.
+-- Options and calls item by item: how the reading begins, goes on, ends and stops.
 use Rattle.std.proofs.Common.{◌≡◌, ℕ, ◌≤◌, ◌<◌, List, [], ◌∷◌, ◌++◌, length, take, drop, count_by, nat_eq, Some, None, refl, ap, ◌∙◌, sym, subst, append_assoc, length-append, suc, arith}
 use Rattle.std.specs.Str.{IsUtf8, chars, encode_utf8_all}
 use Rattle.std.proofs.lemmas.List.{append-nil, take_at}
@@ -10,29 +10,64 @@ use Rattle.text_cut.proofs.Sizes.{size_bytes, front_bytes, cut_at}
 use Rattle.text_cut.proofs.Pieces.{furthest, one_reading}
 use Rattle.text_cut.proofs.Longer.{spelled_before, reach_longer}
 use Rattle.text_cut.proofs.SoFar.{so_far_begins, so_far_more}
+use Rattle.ra_cfg.specs.declared.cfg_expr.CfgExpr.{CfgExpr}
+use Rattle.ra_cfg.specs.Options.{Options, with_flag, only_true}
 use Rattle.hir_lower.specs.declared.call.GatedCall.{GatedCall}
 use Rattle.hir_lower.specs.declared.call.Call.TheVariants.{Format}
-use Rattle.script.specs.Script.{Item, Blank, FormatItem, IsItem, AreItems, AreCalls, BreaksAt, calls_of}
+use Rattle.script.specs.declared.reading.Reading.{Reading}
+use Rattle.script.specs.Script.{Item, Blank, OptItem, CfgItem, FormatItem, IsItem, AreItems, AreCalls, BreaksAt, calls_behind, calls_of, options_with, options_of}
 use Rattle.script.specs.ReadItem.{item_at}
-use Rattle.script.specs.ReadCalls.{no_state, CallsSoFar, StopsBehind, IsValidFront}
+use Rattle.script.specs.ReadCalls.{no_state, waiting_behind, GoesOn, IsEmpty, HasRead, ReadSoFar, StopsBehind, IsValidFront}
 use Rattle.script.proofs.Items.{items_read, steps_by, ignores_rest}
 
--- the calls of one more item
-pub calls_more : (values : List Item) (v : Item) → calls_of (values ++ v ∷ []) ≡ calls_of values ++ calls_of (v ∷ [])
-calls_more [] v = refl
-calls_more (Blank ∷ values) v = calls_more values v
-calls_more (FormatItem template ∷ values) v = ap (λ l. record { call = Format (record { template = template }) } ∷ l) (calls_more values v)
+-- the options of items and of more items
+options_more : (o : Options) (values more : List Item) → options_with o (values ++ more) ≡ options_with (options_with o values) more
+options_more o [] more = refl
+options_more o (Blank ∷ values) more = options_more o values more
+options_more o (OptItem name ∷ values) more = options_more (with_flag o name) values more
+options_more o (CfgItem predicate ∷ values) more = options_more o values more
+options_more o (FormatItem template ∷ values) more = options_more o values more
+
+-- the predicates that wait behind items and more items
+waiting_more : (waiting : List CfgExpr) (values more : List Item) → waiting_behind waiting (values ++ more) ≡ waiting_behind (waiting_behind waiting values) more
+waiting_more waiting [] more = refl
+waiting_more waiting (Blank ∷ values) more = waiting_more waiting values more
+waiting_more waiting (OptItem name ∷ values) more = waiting_more waiting values more
+waiting_more waiting (CfgItem predicate ∷ values) more = waiting_more (waiting ++ predicate ∷ []) values more
+waiting_more waiting (FormatItem template ∷ values) more = waiting_more [] values more
+
+-- the calls of items and of more items
+calls_more : (waiting : List CfgExpr) (values more : List Item) → calls_behind waiting (values ++ more) ≡ calls_behind waiting values ++ calls_behind (waiting_behind waiting values) more
+calls_more waiting [] more = refl
+calls_more waiting (Blank ∷ values) more = calls_more waiting values more
+calls_more waiting (OptItem name ∷ values) more = calls_more waiting values more
+calls_more waiting (CfgItem predicate ∷ values) more = calls_more (waiting ++ predicate ∷ []) values more
+calls_more waiting (FormatItem template ∷ values) more =
+    ap (λ l. record { cfgs = waiting; call = Format (record { template = template }) } ∷ l) (calls_more [] values more)
+
+-- what items and more items give
+has_read_more : (old new : Reading) (values more : List Item) → HasRead old values → GoesOn old more new → HasRead new (values ++ more)
+has_read_more old new values more has goes = record {
+  options = goes.options ∙ (ap (λ o. options_with o more) has.options ∙ sym (options_more only_true values more));
+  waiting = goes.waiting ∙ (ap (λ w. waiting_behind w more) has.waiting ∙ sym (waiting_more [] values more));
+  calls = goes.calls ∙ (ap (λ l. l ++ calls_behind old.waiting more) has.calls
+      ∙ (ap (λ w. calls_behind [] values ++ calls_behind w more) has.waiting ∙ sym (calls_more [] values more)));
+}
 
 -- nothing is read yet
-pub calls_begin : (text : List ℕ) → CallsSoFar text [] (place 0 text)
-calls_begin text = record { values = []; so_far = so_far_begins IsItem no_state text; calls_are = refl }
+pub reading_begins : (text : List ℕ) (reading : Reading) → IsEmpty reading → ReadSoFar text reading (place 0 text)
+reading_begins text reading is = record {
+  values = [];
+  so_far = so_far_begins IsItem no_state text;
+  has_read = record { options = is.options; waiting = is.waiting; calls = is.calls };
+}
 
 -- one more item is read
-pub calls_go_on : (text : List ℕ) (calls : List GatedCall) (here : Place) (v : Item) (e : Place) → CallsSoFar text calls here → item_at here ≡ Some (v, e) → CallsSoFar text (calls ++ calls_of (v ∷ [])) e
-calls_go_on text calls here v e so_far found = record {
+pub reading_goes_on : (text : List ℕ) (old new : Reading) (here : Place) (v : Item) (e : Place) → ReadSoFar text old here → item_at here ≡ Some (v, e) → GoesOn old (v ∷ []) new → ReadSoFar text new e
+reading_goes_on text old new here v e so_far found goes = record {
   values = so_far.values ++ v ∷ [];
   so_far = so_far_more IsItem no_state (λ state. item_at) (λ state x. tt) items_read steps_by text so_far.values tt here v e so_far.so_far found;
-  calls_are = ap (λ l. l ++ calls_of (v ∷ [])) so_far.calls_are ∙ sym (calls_more so_far.values v);
+  has_read = has_read_more old new so_far.values (v ∷ []) so_far.has_read goes;
 }
 
 -- what stands in front of some characters of a text is a text of its own
@@ -69,8 +104,8 @@ shorter_front (a ∷ text) rest (b ∷ other) left same fits =
     λ i. head i ∷ more i
 
 -- items in front of the bytes reach no further than where the reader stops
-items_within : (bytes text : List ℕ) (calls : List GatedCall) (at : ℕ) → IsValidFront bytes text → StopsBehind (chars text) calls at → (other left : List ℕ) (others : List (Spelled Item)) → bytes ≡ other ++ left → AreItems other others → length other ≤ at
-items_within bytes text calls at valid stops other left others there are =
+items_within : (bytes text : List ℕ) (reading : Reading) (at : ℕ) → IsValidFront bytes text → StopsBehind (chars text) reading at → (other left : List ℕ) (others : List (Spelled Item)) → bytes ≡ other ++ left → AreItems other others → length other ≤ at
+items_within bytes text reading at valid stops other left others there are =
     let so_far = stops.so_far.so_far in
     let split : text ≡ other ++ drop (length other) text = shorter_front text valid.rest other left (sym valid.there ∙ there) (valid.longest other left are.utf8 there) in
     let parts : chars text ≡ chars other ++ chars (drop (length other) text) = ap (λ l. chars l) split ∙ chars-append other (drop (length other) text) are.utf8 in
@@ -85,41 +120,42 @@ no_more [] none = refl
 no_more (b ∷ bytes) none = absurd (omega arith)
 
 -- the bytes of a text up to where the reader stops
-front_is : (bytes text : List ℕ) (calls : List GatedCall) (at : ℕ) → (valid : IsValidFront bytes text) → (stops : StopsBehind (chars text) calls at) → bytes ≡ encode_utf8_all (texts stops.so_far.so_far.front) ++ (encode_utf8_all stops.left ++ valid.rest)
-front_is bytes text calls at valid stops =
+front_is : (bytes text : List ℕ) (reading : Reading) (at : ℕ) → (valid : IsValidFront bytes text) → (stops : StopsBehind (chars text) reading at) → bytes ≡ encode_utf8_all (texts stops.so_far.so_far.front) ++ (encode_utf8_all stops.left ++ valid.rest)
+front_is bytes text reading at valid stops =
     let so_far = stops.so_far.so_far in
     valid.there ∙ (ap (λ l. l ++ valid.rest) (front_bytes text (texts so_far.front) stops.left valid.utf8 so_far.reach.there) ∙ append_assoc (encode_utf8_all (texts so_far.front)) (encode_utf8_all stops.left) valid.rest)
 
 -- where the reader stops behind all bytes, they are items with these calls
-pub whole_read : (bytes text : List ℕ) (calls : List GatedCall) (at : ℕ) → IsValidFront bytes text → StopsBehind (chars text) calls at → length bytes ≤ at → AreCalls bytes calls
-whole_read bytes text calls at valid stops all =
+pub whole_read : (bytes text : List ℕ) (reading : Reading) (at : ℕ) → IsValidFront bytes text → StopsBehind (chars text) reading at → length bytes ≤ at → AreCalls bytes reading.options reading.calls.items
+whole_read bytes text reading at valid stops all =
     let so_far = stops.so_far.so_far in
     let front = encode_utf8_all (texts so_far.front) in
-    let whole : bytes ≡ front ++ (encode_utf8_all stops.left ++ valid.rest) = front_is bytes text calls at valid stops in
+    let whole : bytes ≡ front ++ (encode_utf8_all stops.left ++ valid.rest) = front_is bytes text reading at valid stops in
     let none : encode_utf8_all stops.left ++ valid.rest ≡ [] = no_more (encode_utf8_all stops.left ++ valid.rest) (omega (arith, ap length whole, length-append front (encode_utf8_all stops.left ++ valid.rest), size_bytes (texts so_far.front), so_far.at)) in
     let same : bytes ≡ front = whole ∙ (ap (λ l. front ++ l) none ∙ append-nil front) in
     record {
       spelled = so_far.front;
       are = subst (λ l. AreItems l so_far.front) (sym same) (front_items text stops.left so_far.front valid.utf8 so_far.reach);
-      calls_are = stops.so_far.calls_are ∙ ap (λ l. calls_of l) so_far.are;
+      options_are = stops.so_far.has_read.options ∙ ap (λ l. options_of l) so_far.are;
+      calls_are = stops.so_far.has_read.calls ∙ ap (λ l. calls_of l) so_far.are;
     }
 
 -- where the reader stops in front of some bytes, they break there
-pub breaks_at : (bytes text : List ℕ) (calls : List GatedCall) (at line : ℕ) → IsValidFront bytes text → StopsBehind (chars text) calls at → at < length bytes → line ≡ suc (count_by (λ b. nat_eq b 10) (take at bytes)) → BreaksAt bytes line
-breaks_at bytes text calls at line valid stops more counts =
+pub breaks_at : (bytes text : List ℕ) (reading : Reading) (at line : ℕ) → IsValidFront bytes text → StopsBehind (chars text) reading at → at < length bytes → line ≡ suc (count_by (λ b. nat_eq b 10) (take at bytes)) → BreaksAt bytes line
+breaks_at bytes text reading at line valid stops more counts =
     let so_far = stops.so_far.so_far in
     let front = encode_utf8_all (texts so_far.front) in
-    let whole : bytes ≡ front ++ (encode_utf8_all stops.left ++ valid.rest) = front_is bytes text calls at valid stops in
+    let whole : bytes ≡ front ++ (encode_utf8_all stops.left ++ valid.rest) = front_is bytes text reading at valid stops in
     let size_is : length front ≡ at = size_bytes (texts so_far.front) ∙ sym so_far.at in
     record {
-      none = λ others are. let within : length bytes ≤ at = items_within bytes text calls at valid stops bytes [] are.spelled (sym (append-nil bytes)) are.are in omega (arith, within, more);
+      none = λ options calls are. let within : length bytes ≤ at = items_within bytes text reading at valid stops bytes [] are.spelled (sym (append-nil bytes)) are.are in omega (arith, within, more);
       front = front;
       is_longest = record {
         rest = encode_utf8_all stops.left ++ valid.rest;
         there = whole;
         spelled = so_far.front;
         are = front_items text stops.left so_far.front valid.utf8 so_far.reach;
-        longest = λ other left others there are. let within : length other ≤ at = items_within bytes text calls at valid stops other left others there are in omega (arith, within, size_is);
+        longest = λ other left others there are. let within : length other ≤ at = items_within bytes text reading at valid stops other left others there are in omega (arith, within, size_is);
       };
       counts = counts ∙ ap (λ l. suc (count_by (λ b. nat_eq b 10) l)) (ap (λ l. take at l) whole ∙ take_at front (encode_utf8_all stops.left ++ valid.rest) at size_is);
     }
@@ -128,6 +164,10 @@ breaks_at bytes text calls at line valid stops more counts =
 pub one_list : (bytes : List ℕ) (spelled others : List (Spelled Item)) → AreItems bytes spelled → AreItems bytes others → spelled ≡ others
 one_list bytes spelled others are also = one_reading IsItem no_state (λ state. item_at) items_read (chars bytes) spelled others are.reading also.reading
 
+-- bytes have one set of options
+pub one_set : (bytes : List ℕ) (options others : Options) (calls more : List GatedCall) → AreCalls bytes options calls → AreCalls bytes others more → options ≡ others
+one_set bytes options others calls more a b = a.options_are ∙ (ap (λ l. options_of (items l)) (one_list bytes a.spelled b.spelled a.are b.are) ∙ sym b.options_are)
+
 -- bytes have one list of calls
-pub one_script : (bytes : List ℕ) (calls others : List GatedCall) → AreCalls bytes calls → AreCalls bytes others → calls ≡ others
-one_script bytes calls others a b = a.calls_are ∙ (ap (λ l. calls_of (items l)) (one_list bytes a.spelled b.spelled a.are b.are) ∙ sym b.calls_are)
+pub one_calls : (bytes : List ℕ) (options others : Options) (calls more : List GatedCall) → AreCalls bytes options calls → AreCalls bytes others more → calls ≡ more
+one_calls bytes options others calls more a b = a.calls_are ∙ (ap (λ l. calls_of (items l)) (one_list bytes a.spelled b.spelled a.are b.are) ∙ sym b.calls_are)

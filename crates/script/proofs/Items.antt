@@ -1,21 +1,24 @@
 -- Each kind of item is found where it stands, and stands where it is found.
-use Rattle.std.proofs.Common.{◌≡◌, ℕ, ◌+◌, ◌<◌, true, cond, List, [], ◌∷◌, ◌++◌, length, Option, Some, None, refl, ap, ◌∙◌, sym, subst, append_assoc, length-append, codes, arith}
+use Rattle.std.proofs.Common.{◌≡◌, ℕ, ◌+◌, ◌<◌, true, false, cond, List, [], ◌∷◌, ◌++◌, length, Option, Some, None, refl, ap, ◌∙◌, sym, subst, append_assoc, length-append, codes, arith}
 use Rattle.std.specs.Option.{option_map, option_and_then}
 use Rattle.std.specs.Str.{chars, encode_utf8_all}
 use Rattle.std.proofs.lemmas.Option.{option_and_then_some, same_Some}
-use Rattle.text_cut.specs.Runs.{front, size, AllPass, is_blank}
+use Rattle.text_cut.specs.Runs.{starts, size, AllPass, is_blank}
 use Rattle.text_cut.specs.Place.{Place, place, past, Took}
 use Rattle.text_cut.specs.Rules.{Spells, past_word}
 use Rattle.text_cut.specs.Reading.{Spelled, texts, ReadsPieces, StepsBy, IgnoresRest}
 use Rattle.text_cut.proofs.Sizes.{size_append}
 use Rattle.text_cut.proofs.Rules.{took_both, word_found}
 use Rattle.text_cut.proofs.Options.{mapped, chosen, none_some}
+use Rattle.ra_cfg.specs.declared.cfg_expr.CfgAtom.TheVariants.{Flag}
+use Rattle.ra_cfg.specs.declared.cfg_expr.CfgExpr.{Atom}
 use Rattle.code_meaning.specs.Write.{Piece}
 use Rattle.hir_lower.specs.Pieces.{HasPieces}
-use Rattle.script.specs.Script.{Item, Blank, FormatItem, is_plain, IsItem}
-use Rattle.script.specs.ReadItem.{past_line, string_at, is_doubled, call_behind, format_at, or_else, item_behind, item_at}
+use Rattle.script.specs.Script.{Item, Blank, OptItem, CfgItem, FormatItem, is_plain, IsItem, IsWordLine}
+use Rattle.script.specs.ReadItem.{past_line, string_at, is_doubled, name_at, opt_at, cfg_at, call_behind, format_at, or_else, keyword_item, item_behind, item_at}
 use Rattle.script.specs.ReadCalls.{no_state}
 use Rattle.script.proofs.Strings.{RunAndWord, StringIs, past_run, run_then, run_then_is, string_found, string_is}
+use Rattle.script.proofs.Names.{LineIs, name_found, line_is}
 use Rattle.script.proofs.Doubled.{pieces_doubled, doubled_pieces}
 
 -- one answer or the other
@@ -66,11 +69,61 @@ call_found before between string after rest at pieces front blanks plain ends ha
     ∙ (format_found between string after rest ((at + size before) + size (codes "format")) pieces blanks plain ends has
     ∙ ap (λ n. Some (FormatItem (encode_utf8_all string), place n rest)) (format_line_size before between string after at))))
 
+-- the spelling of a keyword and a word in front of what follows
+abbrev word_line : List ℕ → List ℕ → List ℕ → List ℕ → List ℕ → List ℕ → List ℕ
+word_line keyword before between word after rest = before ++ (keyword ++ (between ++ (word ++ (after ++ (10 ∷ rest)))))
+
+word_line_rest : (keyword before between word after rest : List ℕ) → word_line keyword before between word after [] ++ rest ≡ word_line keyword before between word after rest
+word_line_rest keyword before between word after rest = simp append_assoc
+
+word_line_size : (keyword before between word after : List ℕ) (at : ℕ) → ((((at + size before) + size keyword) + size between) + size word) + size (after ++ 10 ∷ []) ≡ at + size (word_line keyword before between word after [])
+word_line_size keyword before between word after at = omega (
+  arith,
+  size_append before (keyword ++ (between ++ (word ++ (after ++ (10 ∷ []))))),
+  size_append keyword (between ++ (word ++ (after ++ (10 ∷ [])))),
+  size_append between (word ++ (after ++ (10 ∷ []))),
+  size_append word (after ++ (10 ∷ [])),
+  size_append after (10 ∷ []),
+)
+
+-- the word of a line is found where its keyword ends
+word_found_in : (keyword text name rest : List ℕ) (at : ℕ) → (is : IsWordLine keyword text name) → name_at (place ((at + size is.before) + size keyword) (is.between ++ (is.word ++ (is.after ++ (10 ∷ rest))))) ≡ Some (name, place (at + size text) rest)
+word_found_in keyword text name rest at is =
+    name_found is.between is.word is.after rest ((at + size is.before) + size keyword) is.apart is.blank_between is.begins is.continues is.blank_after
+    ∙ (ap (λ t. Some (t, place (((((at + size is.before) + size keyword) + size is.between) + size is.word) + size (is.after ++ 10 ∷ [])) rest)) (sym is.value)
+    ∙ ap (λ n. Some (name, place n rest)) (word_line_size keyword is.before is.between is.word is.after at ∙ ap (λ l. at + size l) (sym is.whole)))
+
+-- the place of a line, past the blanks in front of it
+line_place : (keyword text name rest : List ℕ) (at : ℕ) → (is : IsWordLine keyword text name) → starts is_blank (keyword ++ (is.between ++ (is.word ++ (is.after ++ (10 ∷ rest))))) ≡ false → past is_blank (place at (text ++ rest)) ≡ place (at + size is.before) (keyword ++ (is.between ++ (is.word ++ (is.after ++ (10 ∷ rest)))))
+line_place keyword text name rest at is stops =
+    ap (λ l. past is_blank (place at (l ++ rest))) is.whole
+    ∙ (ap (λ l. past is_blank (place at l)) (word_line_rest keyword is.before is.between is.word is.after rest)
+    ∙ past_run is_blank is.before (keyword ++ (is.between ++ (is.word ++ (is.after ++ (10 ∷ rest))))) at is.blank_before stops)
+
+-- an option is found
+opt_found : (text name rest : List ℕ) (at : ℕ) → IsWordLine (codes "opt") text name → item_at (place at (text ++ rest)) ≡ Some (OptItem name, place (at + size text) rest)
+opt_found text name rest at is =
+    let more = is.between ++ (is.word ++ (is.after ++ (10 ∷ rest))) in
+    ap (λ p. item_behind p) (line_place (codes "opt") text name rest at is refl)
+    ∙ (ap (λ o. or_else o opt_at None) (word_found (codes "opt") (at + size is.before) more)
+    ∙ ap (λ o. option_map (λ (r : List ℕ × Place). (OptItem r.0, r.1)) o) (word_found_in (codes "opt") text name rest at is))
+
+-- a predicate is found
+cfg_found : (text name rest : List ℕ) (at : ℕ) → IsWordLine (codes "cfg") text name → item_at (place at (text ++ rest)) ≡ Some (CfgItem (Atom (Flag name)), place (at + size text) rest)
+cfg_found text name rest at is =
+    let more = is.between ++ (is.word ++ (is.after ++ (10 ∷ rest))) in
+    ap (λ p. item_behind p) (line_place (codes "cfg") text name rest at is refl)
+    ∙ (ap (λ o. or_else o cfg_at None) (word_found (codes "cfg") (at + size is.before) more)
+    ∙ ap (λ o. option_map (λ (r : List ℕ × Place). (CfgItem (Atom (Flag r.0)), r.1)) o) (word_found_in (codes "cfg") text name rest at is))
+
 -- what a rule says is found
-pub item_found : (front : List (Spelled Item)) (at : ℕ) (text : List ℕ) (v : Item) (rest : List ℕ) → IsItem front text v rest → item_at (place at (text ++ rest)) ≡ Some (v, place (at + size text) rest)
-item_found front at text Blank rest is =
+pub item_found : (before : List (Spelled Item)) (at : ℕ) (text : List ℕ) (v : Item) (rest : List ℕ) → IsItem before text v rest → item_at (place at (text ++ rest)) ≡ Some (v, place (at + size text) rest)
+item_found before at text Blank rest is =
     subst (λ l. item_at (place at (l ++ rest)) ≡ Some (Blank, place (at + size l) rest)) (sym is.whole) (blank_found is.blanks rest at is.are_blanks)
-item_found front at text (FormatItem template) rest is =
+item_found before at text (OptItem name) rest is = opt_found text name rest at is
+item_found before at text (CfgItem predicate) rest is =
+    subst (λ e. item_at (place at (text ++ rest)) ≡ Some (CfgItem e, place (at + size text) rest)) (sym is.flag) (cfg_found text is.name rest at is.line)
+item_found before at text (FormatItem template) rest is =
     let has : HasPieces (encode_utf8_all is.string) is.pieces = subst (λ l. HasPieces l is.pieces) is.value is.has_pieces in
     subst (λ l. item_at (place at (l ++ rest)) ≡ Some (FormatItem template, place (at + size l) rest)) (sym is.whole)
     (subst (λ t. item_at (place at (format_line is.before is.between is.string is.after [] ++ rest)) ≡ Some (FormatItem t, place (at + size (format_line is.before is.between is.string is.after [])) rest)) (sym is.value)
@@ -117,13 +170,13 @@ call_is here r found = option_and_then_some call_behind (string_at here) r found
     (λ single none. absurd (none_some r none)))
 
 -- a call with its word stands where it is found
-format_is : (front : List (Spelled Item)) (p b : Place) (r : Item × Place) → RunAndWord is_blank (codes "format") p b → CallIs b r → Spells (λ at. IsItem front) p r
-format_is front p b r word is =
+format_is : (before : List (Spelled Item)) (p b : Place) (r : Item × Place) → RunAndWord is_blank (codes "format") p b → CallIs b r → Spells (λ at. IsItem before) p r
+format_is before p b r word is =
     let text = (word.run ++ codes "format") ++ (((is.between ++ 34 ∷ []) ++ (is.string ++ 34 ∷ [])) ++ (is.after ++ 10 ∷ [])) in
     record {
       text = text;
       took = took_both p b r.1 (word.run ++ codes "format") (((is.between ++ 34 ∷ []) ++ (is.string ++ 34 ∷ [])) ++ (is.after ++ 10 ∷ [])) word.took is.took;
-      rule = subst (λ v. IsItem front text v r.1.left) (sym is.is) (record {
+      rule = subst (λ v. IsItem before text v r.1.left) (sym is.is) (record {
         before = word.run;
         between = is.between;
         string = is.string;
@@ -140,39 +193,69 @@ format_is front p b r word is =
     }
 
 -- a line without meaning stands where it is found
-blank_is : (front : List (Spelled Item)) (p e : Place) → RunAndWord is_blank (10 ∷ []) p e → Spells (λ at. IsItem front) p (Blank, e)
-blank_is front p e line = record { text = line.run ++ 10 ∷ []; took = line.took; rule = record { blanks = line.run; whole = refl; are_blanks = line.pass } }
+blank_is : (before : List (Spelled Item)) (p e : Place) → RunAndWord is_blank (10 ∷ []) p e → Spells (λ at. IsItem before) p (Blank, e)
+blank_is before p e line = record { text = line.run ++ 10 ∷ []; took = line.took; rule = record { blanks = line.run; whole = refl; are_blanks = line.pass } }
+
+-- an option stands where it is found
+opt_is : (before : List (Spelled Item)) (p b : Place) (r : Item × Place) → RunAndWord is_blank (codes "opt") p b → opt_at b ≡ Some r → Spells (λ at. IsItem before) p r
+opt_is before p b r word found = mapped (λ (name : List ℕ × Place). (OptItem name.0, name.1)) (name_at b) r found
+    (λ name there same.
+    let line : LineIs (codes "opt") p name = line_is (codes "opt") p b name word there in
+    subst (λ z. Spells (λ at. IsItem before) p z) same (record { text = line.text; took = line.took; rule = line.line }))
+
+-- a predicate stands where it is found
+cfg_is : (before : List (Spelled Item)) (p b : Place) (r : Item × Place) → RunAndWord is_blank (codes "cfg") p b → cfg_at b ≡ Some r → Spells (λ at. IsItem before) p r
+cfg_is before p b r word found = mapped (λ (name : List ℕ × Place). (CfgItem (Atom (Flag name.0)), name.1)) (name_at b) r found
+    (λ name there same.
+    let line : LineIs (codes "cfg") p name = line_is (codes "cfg") p b name word there in
+    subst (λ z. Spells (λ at. IsItem before) p z) same (record { text = line.text; took = line.took; rule = record { name = name.0; line = line.line; flag = refl } }))
+
+-- what is found by its keyword stands
+keyword_is : (before : List (Spelled Item)) (p : Place) (r : Item × Place) → keyword_item (past is_blank p) ≡ Some r → Spells (λ at. IsItem before) p r
+keyword_is before p r found =
+    let begin = past is_blank p in
+    or_else_is (past_word (codes "opt") begin) opt_at (or_else (past_word (codes "cfg") begin) cfg_at (or_else (past_word (codes "format") begin) format_at None)) r found
+    (λ b word opt. opt_is before p b r (run_then_is is_blank (codes "opt") p b word) opt)
+    (λ other. or_else_is (past_word (codes "cfg") begin) cfg_at (or_else (past_word (codes "format") begin) format_at None) r other
+    (λ b word cfg. cfg_is before p b r (run_then_is is_blank (codes "cfg") p b word) cfg)
+    (λ last. or_else_is (past_word (codes "format") begin) format_at None r last
+    (λ b word call. format_is before p b r (run_then_is is_blank (codes "format") p b word) (call_is b r call))
+    (λ none. absurd (none_some r none))))
 
 -- what is found stands
-pub item_is : (front : List (Spelled Item)) (p : Place) (r : Item × Place) → item_at p ≡ Some r → Spells (λ at. IsItem front) p r
-item_is front p r found =
-    or_else_is (past_word (10 ∷ []) (past is_blank p)) (λ e. Some (Blank, e)) (or_else (past_word (codes "format") (past is_blank p)) format_at None) r found
-    (λ e line same. subst (λ z. Spells (λ at. IsItem front) p z) (same_Some _ _ same) (blank_is front p e (run_then_is is_blank (10 ∷ []) p e line)))
-    (λ other. or_else_is (past_word (codes "format") (past is_blank p)) format_at None r other
-    (λ b word call. format_is front p b r (run_then_is is_blank (codes "format") p b word) (call_is b r call))
-    (λ none. absurd (none_some r none)))
+pub item_is : (before : List (Spelled Item)) (p : Place) (r : Item × Place) → item_at p ≡ Some r → Spells (λ at. IsItem before) p r
+item_is before p r found =
+    or_else_is (past_word (10 ∷ []) (past is_blank p)) (λ e. Some (Blank, e)) (keyword_item (past is_blank p)) r found
+    (λ e line same. subst (λ z. Spells (λ at. IsItem before) p z) (same_Some _ _ same) (blank_is before p e (run_then_is is_blank (10 ∷ []) p e line)))
+    (λ other. keyword_is before p r other)
 
 -- no item is empty
-item_some : (front : List (Spelled Item)) (text : List ℕ) (v : Item) (rest : List ℕ) → IsItem front text v rest → 0 < length text
-item_some front text Blank rest is = omega (arith, ap length is.whole, length-append is.blanks (10 ∷ []))
-item_some front text (FormatItem template) rest is =
+item_some : (before : List (Spelled Item)) (text : List ℕ) (v : Item) (rest : List ℕ) → IsItem before text v rest → 0 < length text
+item_some before text Blank rest is = omega (arith, ap length is.whole, length-append is.blanks (10 ∷ []))
+item_some before text (OptItem name) rest is =
+    omega (arith, ap length is.whole, length-append is.before (codes "opt" ++ (is.between ++ (is.word ++ (is.after ++ 10 ∷ [])))))
+item_some before text (CfgItem predicate) rest is =
+    omega (arith, ap length is.line.whole, length-append is.line.before (codes "cfg" ++ (is.line.between ++ (is.line.word ++ (is.line.after ++ 10 ∷ [])))))
+item_some before text (FormatItem template) rest is =
     omega (arith, ap length is.whole, length-append is.before (codes "format" ++ (is.between ++ (34 ∷ (is.string ++ (34 ∷ (is.after ++ 10 ∷ [])))))))
 
 -- the reader finds the items, and only them
 pub items_read : ReadsPieces IsItem no_state (λ state. item_at)
 items_read = record {
-  found = λ front text v rest is. item_found front (size (texts front)) text v rest is;
-  is = λ front left r found. item_is front (place (size (texts front)) left) r found;
+  found = λ before text v rest is. item_found before (size (texts before)) text v rest is;
+  is = λ before left r found. item_is before (place (size (texts before)) left) r found;
   some = item_some;
 }
 
 -- the next item needs nothing of the items in front
 pub steps_by : StepsBy no_state (λ state v. tt)
-steps_by = record { more = λ front s. refl }
+steps_by = record { more = λ before s. refl }
 
-same_anywhere : (front : List (Spelled Item)) (text : List ℕ) (v : Item) (rest other : List ℕ) → IsItem front text v rest → IsItem front text v other
-same_anywhere front text Blank rest other is = is
-same_anywhere front text (FormatItem template) rest other is = is
+same_anywhere : (before : List (Spelled Item)) (text : List ℕ) (v : Item) (rest other : List ℕ) → IsItem before text v rest → IsItem before text v other
+same_anywhere before text Blank rest other is = is
+same_anywhere before text (OptItem name) rest other is = is
+same_anywhere before text (CfgItem predicate) rest other is = is
+same_anywhere before text (FormatItem template) rest other is = is
 
 -- an item is one whatever follows it
 pub ignores_rest : IgnoresRest IsItem

@@ -1,5 +1,6 @@
 pub mod Strings
 pub mod Doubled
+pub mod Names
 pub mod Items
 pub mod Calls
 pub mod Words

@@ -3,7 +3,7 @@ use Rattle.std.proofs.Common.{◌≡◌, ℕ, ◌≤◌, List, length, take, cou
 use Rattle.std.proofs.lemmas.List.{take_at}
 use Rattle.script.specs.Script.{BreaksAt}
 use Rattle.script.specs.Laws.{HasOneReading}
-use Rattle.script.proofs.Calls.{one_script}
+use Rattle.script.proofs.Calls.{one_set, one_calls}
 
 -- bytes break in one line
 one_line : (bytes : List ℕ) (line other : ℕ) → BreaksAt bytes line → BreaksAt bytes other → line ≡ other
@@ -16,7 +16,8 @@ one_line bytes line other a b =
 
 pub has_one_reading : HasOneReading
 has_one_reading = record {
-  calls = λ bytes calls others a b. one_script _ calls others a b;
+  options = λ bytes options others calls more a b. one_set _ options others calls more a b;
+  calls = λ bytes options others calls more a b. one_calls _ options others calls more a b;
   line = λ bytes line other a b. one_line _ line other a b;
-  never_both = λ bytes calls line script fault. fault.none calls script;
+  never_both = λ bytes options calls line script fault. fault.none options calls script;
 }

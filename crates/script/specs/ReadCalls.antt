@@ -1,26 +1,54 @@
--- How far a script is read: the items so far with their calls, and where the reader finds no item.
-use Rattle.std.specs.Prelude.{◌≡◌, ℕ, ◌≤◌, List, ◌++◌, length, None}
+-- How far a script is read: the items so far with their options and calls, and where the reader finds no item.
+use Rattle.std.specs.Prelude.{◌≡◌, ℕ, ◌≤◌, List, [], ◌∷◌, ◌++◌, length, None}
 use Rattle.std.specs.Str.{IsUtf8}
 use Rattle.text_cut.specs.Place.{Place, place}
 use Rattle.text_cut.specs.Reading.{Spelled, SoFar}
-use Rattle.hir_lower.specs.declared.call.GatedCall.{GatedCall}
-use Rattle.script.specs.Script.{Item, IsItem, calls_of}
+use Rattle.ra_cfg.specs.declared.cfg_expr.CfgExpr.{CfgExpr}
+use Rattle.ra_cfg.specs.Options.{only_true}
+use Rattle.script.specs.declared.reading.Reading.{Reading}
+use Rattle.script.specs.Script.{Item, Blank, OptItem, CfgItem, FormatItem, IsItem, calls_behind, options_with}
 use Rattle.script.specs.ReadItem.{item_at}
 
 -- nothing is remembered from item to item
 abbrev pub no_state : List (Spelled Item) → Unit {0}
 no_state front = tt
 
--- the items up to this place have these calls
-pub record CallsSoFar (text : List ℕ) (calls : List GatedCall) (here : Place) : Type 0 where
+-- the predicates that wait for a call behind items, in front of which others wait
+abbrev pub waiting_behind : List CfgExpr → List Item → List CfgExpr
+waiting_behind waiting [] = waiting
+waiting_behind waiting (Blank ∷ more) = waiting_behind waiting more
+waiting_behind waiting (OptItem name ∷ more) = waiting_behind waiting more
+waiting_behind waiting (CfgItem predicate ∷ more) = waiting_behind (waiting ++ predicate ∷ []) more
+waiting_behind waiting (FormatItem template ∷ more) = waiting_behind [] more
+
+-- behind what was read, items give this
+pub record GoesOn (old : Reading) (values : List Item) (new : Reading) : Type 0 where
+  pub options : new.options ≡ options_with old.options values
+  pub waiting : new.waiting ≡ waiting_behind old.waiting values
+  pub calls : new.calls.items ≡ old.calls.items ++ calls_behind old.waiting values
+
+-- nothing was read
+pub record IsEmpty (reading : Reading) : Type 0 where
+  pub options : reading.options ≡ only_true
+  pub waiting : reading.waiting ≡ []
+  pub calls : reading.calls.items ≡ []
+
+-- these items were read
+pub record HasRead (reading : Reading) (values : List Item) : Type 0 where
+  pub options : reading.options ≡ options_with only_true values
+  pub waiting : reading.waiting ≡ waiting_behind [] values
+  pub calls : reading.calls.items ≡ calls_behind [] values
+
+-- the items up to this place were read
+pub record ReadSoFar (text : List ℕ) (reading : Reading) (here : Place) : Type 0 where
   pub values : List Item
   pub so_far : SoFar IsItem no_state text values tt here
-  pub calls_are : calls ≡ calls_of values
+  pub has_read : HasRead reading values
 
--- the items up to this byte have these calls, and no item follows them
-pub record StopsBehind (text : List ℕ) (calls : List GatedCall) (at : ℕ) : Type 0 where
+-- the items up to this byte were read, and no item follows them
+pub record StopsBehind (text : List ℕ) (reading : Reading) (at : ℕ) : Type 0 where
   pub left : List ℕ
-  pub so_far : CallsSoFar text calls (place at left)
+  pub so_far : ReadSoFar text reading (place at left)
   pub none : item_at (place at left) ≡ None
 
 -- the text is the longest front of the bytes that is UTF-8

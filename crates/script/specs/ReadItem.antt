@@ -2,17 +2,21 @@
 use Rattle.std.specs.Prelude.{ℕ, Bool, true, false, nat_eq, List, [], ◌∷◌, Option, Some, None, codes, if◌then◌else◌, option_map}
 use Rattle.std.specs.Option.{option_and_then}
 use Rattle.std.specs.Str.{chars, encode_utf8_all}
-use Rattle.text_cut.specs.Runs.{front, is_blank}
+use Rattle.text_cut.specs.Runs.{front, starts, is_blank}
 use Rattle.text_cut.specs.Place.{Place, past}
 use Rattle.text_cut.specs.Rules.{past_word}
+use Rattle.ra_cfg.specs.declared.cfg_expr.CfgAtom.TheVariants.{Flag}
+use Rattle.ra_cfg.specs.declared.cfg_expr.CfgExpr.{Atom}
 use Rattle.hir_lower.specs.Pieces.{is_brace}
-use Rattle.script.specs.Script.{Item, Blank, FormatItem, is_plain}
+use Rattle.script.specs.Script.{Item, Blank, OptItem, CfgItem, FormatItem, begins_word, continues_word, is_plain}
 use Rattle.script.specs.declared.item.ScriptItem.{ScriptItem}
 use Rattle.script.specs.declared.item.ScriptItem.TheVariants as read
 
 -- what an item that was read stands for
 abbrev pub item_of : ScriptItem → Item
 item_of read.Blank = Blank
+item_of (read.OptItem name) = OptItem name.now
+item_of (read.CfgItem name) = CfgItem (Atom (Flag name.now))
 item_of (read.Format text) = FormatItem text.now
 
 -- the place behind a word that stands behind blanks
@@ -22,6 +26,30 @@ past_spaced word p = past_word word (past is_blank p)
 -- the place behind blanks and a line feed
 abbrev pub past_line : Place → Option Place
 past_line p = past_spaced (10 ∷ []) p
+
+-- the bytes of the word that stands at this place, and the place behind it
+abbrev pub word_at : Place → Option (List ℕ × Place)
+word_at p = if starts begins_word p.left then Some (encode_utf8_all (front continues_word p.left), past continues_word p) else None
+
+-- the bytes of the word that stands behind at least one blank, and the place behind it
+abbrev pub spaced_word_at : Place → Option (List ℕ × Place)
+spaced_word_at p = if starts is_blank p.left then word_at (past is_blank p) else None
+
+-- the word that was read, if its line ends behind it
+abbrev pub name_behind : List ℕ × Place → Option (List ℕ × Place)
+name_behind word = option_map (λ e. (word.0, e)) (past_line word.1)
+
+-- the word of the line whose keyword stands in front of this place
+abbrev pub name_at : Place → Option (List ℕ × Place)
+name_at p = option_and_then name_behind (spaced_word_at p)
+
+-- the option that is put in by the line whose keyword stands in front of this place
+abbrev pub opt_at : Place → Option (Item × Place)
+opt_at p = option_map (λ name. (OptItem name.0, name.1)) (name_at p)
+
+-- the predicate on the line whose keyword stands in front of this place
+abbrev pub cfg_at : Place → Option (Item × Place)
+cfg_at p = option_map (λ name. (CfgItem (Atom (Flag name.0)), name.1)) (name_at p)
 
 -- the bytes of the string whose first character stands at this place, and the place behind its last quote
 abbrev pub inside_at : Place → Option (List ℕ × Place)
@@ -51,9 +79,13 @@ abbrev pub or_else : {A : Type 0} → Option Place → (Place → Option A) → 
 or_else None reader other = other
 or_else (Some p) reader other = reader p
 
+-- the item with a keyword that stands at this place
+abbrev pub keyword_item : Place → Option (Item × Place)
+keyword_item p = or_else (past_word (codes "opt") p) opt_at (or_else (past_word (codes "cfg") p) cfg_at (or_else (past_word (codes "format") p) format_at None))
+
 -- the item whose blanks stand in front of this place
 abbrev pub item_behind : Place → Option (Item × Place)
-item_behind p = or_else (past_word (10 ∷ []) p) (λ e. Some (Blank, e)) (or_else (past_word (codes "format") p) format_at None)
+item_behind p = or_else (past_word (10 ∷ []) p) (λ e. Some (Blank, e)) (keyword_item p)
 
 -- the item that stands at a place, and the place behind it
 abbrev pub item_at : Place → Option (Item × Place)

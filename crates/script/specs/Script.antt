@@ -1,17 +1,31 @@
 -- A script is a list of items, one after the other, that covers its text; each item is a line.
-use Rattle.std.specs.Prelude.{◌≡◌, ℕ, ◌≤◌, Bool, false, ◌||◌, not, nat_eq, suc, List, [], ◌∷◌, ◌++◌, length, count_by, codes, cond}
+use Rattle.std.specs.Prelude.{◌≡◌, ℕ, ◌<◌, ◌≤◌, Bool, true, false, ◌||◌, not, nat_eq, suc, List, [], ◌∷◌, ◌++◌, length, count_by, codes, cond}
 use Rattle.std.specs.Str.{IsUtf8, chars, encode_utf8_all}
-use Rattle.text_cut.specs.Runs.{AllPass, is_blank}
+use Rattle.std.specs.Char.{is_ascii_alphabetic, is_ascii_alphanumeric}
+use Rattle.text_cut.specs.Runs.{AllPass, starts, is_blank}
 use Rattle.text_cut.specs.Reading.{Spelled, items, IsReading}
 use Rattle.code_meaning.specs.Write.{Piece}
+use Rattle.ra_cfg.specs.declared.cfg_expr.CfgAtom.TheVariants.{Flag}
+use Rattle.ra_cfg.specs.declared.cfg_expr.CfgExpr.{CfgExpr, Atom}
+use Rattle.ra_cfg.specs.Options.{Options, with_flag, only_true}
 use Rattle.hir_lower.specs.declared.call.GatedCall.{GatedCall}
 use Rattle.hir_lower.specs.declared.call.Call.TheVariants.{Format}
 use Rattle.hir_lower.specs.Pieces.{HasPieces}
 
--- a line without meaning, or a call of `format_args!` with the text of its string
+-- a line without meaning; an option that is put in; a predicate of the next call; a call of `format_args!` with the text of its string
 pub data Item : Type 0 where
   Blank : Item
+  OptItem : List ℕ → Item
+  CfgItem : CfgExpr → Item
   FormatItem : List ℕ → Item
+
+-- an ASCII letter or `_`
+abbrev pub begins_word : ℕ → Bool
+begins_word c = is_ascii_alphabetic c || nat_eq c 95
+
+-- an ASCII letter, a digit or `_`
+abbrev pub continues_word : ℕ → Bool
+continues_word c = is_ascii_alphanumeric c || nat_eq c 95
 
 -- a character that stands for itself in a string: other than `"`, `\` and LF
 abbrev pub is_plain : ℕ → Bool
@@ -38,9 +52,32 @@ pub record IsFormatLine (text : List ℕ) (template : List ℕ) : Type 0 where
   pub pieces : List Piece
   pub has_pieces : HasPieces template pieces
 
+-- the text is a keyword and a word, with blanks before, between and after them, and a line feed
+pub record IsWordLine (keyword text name : List ℕ) : Type 0 where
+  pub before : List ℕ
+  pub between : List ℕ
+  pub word : List ℕ
+  pub after : List ℕ
+  pub whole : text ≡ before ++ (keyword ++ (between ++ (word ++ (after ++ 10 ∷ []))))
+  pub blank_before : AllPass is_blank before
+  pub blank_between : AllPass is_blank between
+  pub apart : 0 < length between
+  pub blank_after : AllPass is_blank after
+  pub begins : starts begins_word word ≡ true
+  pub continues : AllPass continues_word word
+  pub value : name ≡ encode_utf8_all word
+
+-- the text is `cfg` and a word, and the predicate is the flag of that name
+pub record IsCfgLine (text : List ℕ) (predicate : CfgExpr) : Type 0 where
+  pub name : List ℕ
+  pub line : IsWordLine (codes "cfg") text name
+  pub flag : predicate ≡ Atom (Flag name)
+
 -- the spellings of an item, whatever stands in front of it and behind it
 abbrev pub IsItem : List (Spelled Item) → List ℕ → Item → List ℕ → Type 0
 IsItem front text Blank rest = IsBlankLine text
+IsItem front text (OptItem name) rest = IsWordLine (codes "opt") text name
+IsItem front text (CfgItem predicate) rest = IsCfgLine text predicate
 IsItem front text (FormatItem template) rest = IsFormatLine text template
 
 -- the bytes are these items with their spellings
@@ -48,11 +85,29 @@ pub record AreItems (bytes : List ℕ) (spelled : List (Spelled Item)) : Type 0 
   pub utf8 : IsUtf8 bytes
   pub reading : IsReading IsItem (chars bytes) spelled
 
--- the calls of items, in order
+-- the calls of items, in order, behind predicates that wait for a call: each call has the predicates since the call before
+abbrev pub calls_behind : List CfgExpr → List Item → List GatedCall
+calls_behind waiting [] = []
+calls_behind waiting (Blank ∷ more) = calls_behind waiting more
+calls_behind waiting (OptItem name ∷ more) = calls_behind waiting more
+calls_behind waiting (CfgItem predicate ∷ more) = calls_behind (waiting ++ predicate ∷ []) more
+calls_behind waiting (FormatItem template ∷ more) =
+    record { cfgs = waiting; call = Format (record { template = template }) } ∷ calls_behind [] more
+
 abbrev pub calls_of : List Item → List GatedCall
-calls_of [] = []
-calls_of (Blank ∷ more) = calls_of more
-calls_of (FormatItem template ∷ more) = record { call = Format (record { template = template }) } ∷ calls_of more
+calls_of values = calls_behind [] values
+
+-- options, with those of items put in
+abbrev pub options_with : Options → List Item → Options
+options_with options [] = options
+options_with options (Blank ∷ more) = options_with options more
+options_with options (OptItem name ∷ more) = options_with (with_flag options name) more
+options_with options (CfgItem predicate ∷ more) = options_with options more
+options_with options (FormatItem template ∷ more) = options_with options more
+
+-- the options of items, wherever they stand
+abbrev pub options_of : List Item → Options
+options_of values = options_with only_true values
 
 -- whether the last of the bytes is a line feed
 abbrev pub ends_line : List ℕ → Bool
@@ -65,15 +120,16 @@ abbrev pub with_end : List ℕ → List ℕ
 with_end [] = []
 with_end (b ∷ bytes) = cond (ends_line (b ∷ bytes)) (b ∷ bytes) ((b ∷ bytes) ++ 10 ∷ [])
 
--- the bytes are items, and these are their calls
-pub record AreCalls (bytes : List ℕ) (calls : List GatedCall) : Type 0 where
+-- the bytes are items, and these are their options and calls
+pub record AreCalls (bytes : List ℕ) (options : Options) (calls : List GatedCall) : Type 0 where
   pub spelled : List (Spelled Item)
   pub are : AreItems bytes spelled
+  pub options_are : options ≡ options_of (items spelled)
   pub calls_are : calls ≡ calls_of (items spelled)
 
--- the bytes are a script with these calls
-abbrev pub IsScript : List ℕ → List GatedCall → Type 0
-IsScript bytes calls = AreCalls (with_end bytes) calls
+-- the bytes are a script with these options and calls
+abbrev pub IsScript : List ℕ → Options → List GatedCall → Type 0
+IsScript bytes options calls = AreCalls (with_end bytes) options calls
 
 -- this is the longest front of the bytes that is a list of whole items
 pub record IsLongestFront (bytes front : List ℕ) : Type 0 where
@@ -86,7 +142,7 @@ pub record IsLongestFront (bytes front : List ℕ) : Type 0 where
 
 -- the bytes are no items, and the first broken one begins in this line, counted from 1
 pub record BreaksAt (bytes : List ℕ) (line : ℕ) : Type 0 where
-  pub none : (calls : List GatedCall) → AreCalls bytes calls → ⊥
+  pub none : (options : Options) (calls : List GatedCall) → AreCalls bytes options calls → ⊥
   pub front : List ℕ
   pub is_longest : IsLongestFront bytes front
   pub counts : line ≡ suc (count_by (λ b. nat_eq b 10) front)

@@ -1,9 +1,10 @@
-//! Scripts and what is printed for them.
-//! A script is read whole: to its calls, or to the line of its first broken item.
+//! Scripts: the options and the calls that a text asks for.
+//! A script is read whole: to its options and calls, or to the line of its first broken item.
 #![tactic(auto)]
 
 mod item;
 mod laws;
+mod reading;
 mod script;
 mod tokens;
 

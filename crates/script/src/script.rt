@@ -3,8 +3,10 @@ ghost use Rattle.script.specs.Script.{IsScript, AreCalls, with_end};
 ghost use Rattle.script.specs.ReadCalls.{StopsBehind, IsValidFront};
 ghost use Rattle.script.specs.Fault.{FaultIs, BreakIs};
 
-use crate::item::{push_call, read_item};
+use crate::item::read_item;
+use crate::reading::Reading;
 use hir_lower::GatedCall;
+use ra_cfg::CfgOptions;
 use std::alloc::{AllocError, Global};
 use std::str;
 use text_cut::begin;
@@ -16,7 +18,9 @@ pub const MOST: usize = 16_777_216;
 /// A script that was read.
 #[derive(Drop)]
 pub struct Script {
-    /// The calls of the script, in order.
+    /// The options of the script, wherever they stand in it.
+    pub options: CfgOptions,
+    /// The calls of the script, in order, each with its predicates.
     pub calls: Vec<GatedCall>,
 }
 
@@ -58,18 +62,18 @@ fn valid_front(bytes: &[u8]) -> &str
     }
 }
 
-// Reads the items at the front of a text: their calls, and how many bytes they take.
-fn read_calls(alloc: Global, text: &str) -> Result<(Vec<GatedCall>, u32), AllocError>
+// Reads the items at the front of a text: what they give, and how many bytes they take.
+fn read_items(alloc: Global, text: &str) -> Result<(Reading, u32), AllocError>
     requires { length text.now ≤ 4_294_967_295 }
-    ensures { IfOk result (λ r. StopsBehind (chars text.now) r.0.items r.1) }
+    ensures { IfOk result (λ r. StopsBehind (chars text.now) r.0 r.1) }
 {
-    let mut calls = Vec::new(alloc);
+    let mut reading = Reading::new(alloc)?;
     let mut here = begin(text);
     while let Some((item, behind)) = read_item(here) {
-        push_call(alloc, &mut calls, item)?;
+        reading.add(alloc, item)?;
         here = behind;
     }
-    Ok((calls, here.at))
+    Ok((reading, here.at))
 }
 
 // The line of the byte behind these bytes, counted from 1.
@@ -90,16 +94,21 @@ fn line_behind(bytes: &[u8]) -> u64
 /// [`ScriptError::Memory`] where no memory is left.
 pub fn read_ended(alloc: Global, bytes: &[u8]) -> Result<Script, ScriptError>
     requires { length bytes.now ≤ MOST + 1 }
-    ensures script { IfOk result (λ script. AreCalls bytes.now script.calls.items) }
+    ensures script { IfOk result (λ script. AreCalls bytes.now script.options script.calls.items) }
     ensures fault { BreakIs result bytes.now }
 {
-    let (calls, at) = read_calls(alloc, valid_front(bytes))?;
+    let (reading, at) = read_items(alloc, valid_front(bytes))?;
     if (at as usize) < bytes.len() {
         return Err(ScriptError::Syntax {
             line: line_behind(&bytes[..at as usize]),
         });
     }
-    Ok(Script { calls })
+    let Reading {
+        options,
+        waiting: _,
+        calls,
+    } = reading;
+    Ok(Script { options, calls })
 }
 
 // Whether bytes end in another byte than a line feed.
@@ -137,7 +146,7 @@ pub fn end_last_line(bytes: &mut Vec<u8>) -> Result<(), AllocError>
 /// [`ScriptError::Memory`] where no memory is left.
 pub fn read_script(alloc: Global, bytes: &[u8]) -> Result<Script, ScriptError>
     requires { length bytes.now ≤ MOST }
-    ensures script { IfOk result (λ script. IsScript bytes.now script.calls.items) }
+    ensures script { IfOk result (λ script. IsScript bytes.now script.options script.calls.items) }
     ensures fault { FaultIs result bytes.now }
 {
     let mut ended = bytes.to_vec(alloc)?;
@@ -149,9 +158,24 @@ pub fn read_script(alloc: Global, bytes: &[u8]) -> Result<Script, ScriptError>
 mod tests {
     use super::*;
     use hir_lower::Call;
+    use ra_cfg::{CfgAtom, CfgExpr};
     use std::test::Fail;
+    use sym_core::Symbol;
 
-    // The texts of the calls, one a line; or the line of the fault.
+    // Adds a line with the names of a call's predicates, and its text.
+    fn push_call(text: &mut String, call: &GatedCall) -> Result<(), AllocError> {
+        for cfg in call.cfgs.as_slice() {
+            if let CfgExpr::Atom(CfgAtom::Flag(name)) = cfg {
+                text.push_str(name.as_str())?;
+                text.push(' ')?;
+            }
+        }
+        let Call::Format(format) = &call.call;
+        text.push_str(format.template.as_str())?;
+        text.push('\n')
+    }
+
+    // The calls, one a line; or the line of the fault.
     fn told(alloc: Global, bytes: &[u8]) -> Result<String, ScriptError>
         requires { length bytes.now ≤ MOST }
     {
@@ -159,9 +183,7 @@ mod tests {
         match read_script(alloc, bytes) {
             Ok(script) => {
                 for call in &script.calls {
-                    let Call::Format(format) = &call.call;
-                    text.push_str(format.template.as_str())?;
-                    text.push('\n')?;
+                    push_call(&mut text, call)?;
                 }
             }
             Err(ScriptError::Syntax { line }) => text = format!(in alloc; "line {line}")?,
@@ -172,7 +194,7 @@ mod tests {
 
     #[test]
     fn reads_scripts(rt: HostRuntime) -> Result<(), Fail> {
-        let cases: [(&[u8], &str); 12] = [
+        let cases: [(&[u8], &str); 22] = [
             (b"", ""),
             (b"\n", ""),
             (b"format \"hi\"", "hi\n"),
@@ -180,11 +202,21 @@ mod tests {
             (b"format\"\"\nformat \"{{}}\"\n", "\n{{}}\n"),
             (b"format \"h\xc3\xa9\"", "hé\n"),
             (b"\n\n\xff", "line 3"),
-            (b"opt a\nformat \"a", "line 1"),
+            (b"opt a\nformat \"a", "line 2"),
             (b"format \"a\"\nformat \"{\"\n", "line 2"),
             (b"format \"{}\"", "line 1"),
             (b"format \"a\\n\"", "line 1"),
             (b"format \"a\" b", "line 1"),
+            (b"opt _a1", ""),
+            (b"optb", "line 1"),
+            (b"opt a b", "line 1"),
+            (b"opt \n", "line 1"),
+            (b"cfg 1a", "line 1"),
+            (b"cfg h\xc3\xa9", "line 1"),
+            (b"opt a\n cfg\ta \r\nformat \"x\"", "a x\n"),
+            (b"cfg a\n\ncfg b\nformat \"x\"", "a b x\n"),
+            (b"cfg a\nformat \"x\"\nformat \"y\"", "a x\ny\n"),
+            (b"format \"x\"\ncfg a", "x\n"),
         ];
         for (bytes, want) in cases {
             assert_eq!(rt; told(rt.alloc(), bytes)?.as_str(), want, "at {bytes:?}");
@@ -196,6 +228,29 @@ mod tests {
             ),
             "a last line without its end"
         );
+        Ok(())
+    }
+
+    #[test]
+    fn reads_options(rt: HostRuntime) -> Result<(), Fail> {
+        let cases: [(&[u8], &str, bool); 7] = [
+            (b"", "a", false),
+            (b"opt a", "a", true),
+            (b"opt a", "b", false),
+            (b"format \"x\"\nopt a\n", "a", true),
+            (b"cfg a\nformat \"x\"", "a", false),
+            (b"opt true\nopt false", "true", true),
+            (b"opt true\nopt false", "false", false),
+        ];
+        for (bytes, name, want) in cases {
+            let script = read_script(rt.alloc(), bytes)?;
+            let atom = CfgAtom::Flag(Symbol::new(rt.alloc(), name)?);
+            assert_eq!(rt;
+                script.options.check_atom(&atom),
+                want,
+                "{name} at {bytes:?}"
+            );
+        }
         Ok(())
     }
 }

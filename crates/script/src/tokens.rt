@@ -1,11 +1,12 @@
 ghost use Rattle.std.specs.Prelude.{◌≡◌, ◌+◌, ◌≤◌, [], ◌∷◌, None, IfSome, length, codes, chars, option_map};
+ghost use Rattle.text_cut.specs.Runs.{starts};
 ghost use Rattle.text_cut.specs.Place.{past};
 ghost use Rattle.text_cut.specs.Rules.{past_word};
 ghost use Rattle.text_cut.specs.Seen.{seen};
-ghost use Rattle.script.specs.Script.{is_plain};
-ghost use Rattle.script.specs.ReadItem.{past_line, inside_at, string_at, is_doubled};
+ghost use Rattle.script.specs.Script.{begins_word, continues_word, is_plain};
+ghost use Rattle.script.specs.ReadItem.{past_line, word_at, spaced_word_at, name_at, inside_at, string_at, is_doubled};
 
-use text_cut::{Cursor, begin, blanks, next, run, text_between, word};
+use text_cut::{Cursor, begin, begins_with, blanks, next, run, text_between, word};
 
 // The place behind a line feed.
 #[tactic(auto, using(crate::proofs::Words::words))]
@@ -25,6 +26,24 @@ fn quote(here: Cursor<'_>) -> Option<Cursor<'_>>
     word(here, "\"")
 }
 
+// The place behind the word `opt`.
+#[tactic(auto, using(crate::proofs::Words::words))]
+pub(crate) fn opt_word(here: Cursor<'_>) -> Option<Cursor<'_>>
+    ensures value { option_map seen result ≡ past_word (codes "opt") (seen here.entry) }
+    ensures shorter { IfSome result (λ e. length e.rest.now + 1 ≤ length here.entry.rest.now) }
+{
+    word(here, "opt")
+}
+
+// The place behind the word `cfg`.
+#[tactic(auto, using(crate::proofs::Words::words))]
+pub(crate) fn cfg_word(here: Cursor<'_>) -> Option<Cursor<'_>>
+    ensures value { option_map seen result ≡ past_word (codes "cfg") (seen here.entry) }
+    ensures shorter { IfSome result (λ e. length e.rest.now + 1 ≤ length here.entry.rest.now) }
+{
+    word(here, "cfg")
+}
+
 // The place behind the word `format`.
 #[tactic(auto, using(crate::proofs::Words::words))]
 pub(crate) fn format_word(here: Cursor<'_>) -> Option<Cursor<'_>>
@@ -40,6 +59,54 @@ pub(crate) fn line_end(here: Cursor<'_>) -> Option<Cursor<'_>>
     ensures shorter { IfSome result (λ e. length e.rest.now + 1 ≤ length here.entry.rest.now) }
 {
     line_feed(blanks(here))
+}
+
+// Whether a letter or `_` stands here.
+fn begins_word(here: Cursor<'_>) -> bool
+    ensures { result ≡ starts begins_word (seen here.entry).left }
+{
+    begins_with(here, |c| c.is_ascii_alphabetic() || c == '_')
+}
+
+// The place behind the letters, digits and `_` that stand here.
+fn word_end(here: Cursor<'_>) -> Cursor<'_>
+    ensures value { seen result ≡ past continues_word (seen here.entry) }
+    ensures shorter { length result.rest.now ≤ length here.entry.rest.now }
+{
+    run(here, |c| c.is_ascii_alphanumeric() || c == '_')
+}
+
+// The text of the word that stands here, and the place behind it.
+fn plain_word<'a>(here: Cursor<'a>) -> Option<(&'a str, Cursor<'a>)>
+    ensures value { option_map (λ r. (r.0.now, seen r.1)) result ≡ word_at (seen here.entry) }
+    ensures shorter { IfSome result (λ r. length r.1.rest.now ≤ length here.entry.rest.now) }
+{
+    if !begins_word(here) {
+        return None;
+    }
+    let end = word_end(here);
+    Some((text_between(here, end), end))
+}
+
+// The text of the word behind at least one blank, and the place behind it.
+fn spaced_word<'a>(here: Cursor<'a>) -> Option<(&'a str, Cursor<'a>)>
+    ensures value { option_map (λ r. (r.0.now, seen r.1)) result ≡ spaced_word_at (seen here.entry) }
+    ensures shorter { IfSome result (λ r. length r.1.rest.now ≤ length here.entry.rest.now) }
+{
+    if !begins_with(here, |c| c == ' ' || c == '\t' || c == '\r') {
+        return None;
+    }
+    plain_word(blanks(here))
+}
+
+// The text of the word that ends a line behind its keyword, and the place behind the line.
+pub(crate) fn name<'a>(here: Cursor<'a>) -> Option<(&'a str, Cursor<'a>)>
+    ensures value { option_map (λ r. (r.0.now, seen r.1)) result ≡ name_at (seen here.entry) }
+    ensures shorter { IfSome result (λ r. length r.1.rest.now + 1 ≤ length here.entry.rest.now) }
+{
+    let (text, after) = spaced_word(here)?;
+    let end = line_end(after)?;
+    Some((text, end))
 }
 
 // The place behind the plain characters that stand here.

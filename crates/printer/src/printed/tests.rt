@@ -151,10 +151,11 @@ fn prints_tuples_and_names(rt: HostRuntime) -> Result<(), Fail> {
     let outcomes = [
         Outcome::Code(unit),
         Outcome::Code(single),
+        Outcome::Off,
         Outcome::Code(block),
     ];
     let printed = print_outcomes(alloc, &store, &outcomes)?;
-    let lines = b"0 code ()\n1 code (@4294967295,)\n2 code { (missing, total, ()); }\n";
+    let lines = b"0 code ()\n1 code (@4294967295,)\n2 off\n3 code { (missing, total, ()); }\n";
     assert_eq!(rt; printed.as_slice(), lines.as_slice());
     Ok(())
 }
