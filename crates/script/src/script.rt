@@ -194,7 +194,7 @@ mod tests {
 
     #[test]
     fn reads_scripts(rt: HostRuntime) -> Result<(), Fail> {
-        let cases: [(&[u8], &str); 22] = [
+        let cases: [(&[u8], &str); 12] = [
             (b"", ""),
             (b"\n", ""),
             (b"format \"hi\"", "hi\n"),
@@ -207,6 +207,23 @@ mod tests {
             (b"format \"{}\"", "line 1"),
             (b"format \"a\\n\"", "line 1"),
             (b"format \"a\" b", "line 1"),
+        ];
+        for (bytes, want) in cases {
+            assert_eq!(rt; told(rt.alloc(), bytes)?.as_str(), want, "at {bytes:?}");
+        }
+        assert!(rt;
+            matches!(
+                read_ended(rt.alloc(), b"format \"a\""),
+                Err(ScriptError::Syntax { line: 1 })
+            ),
+            "a last line without its end"
+        );
+        Ok(())
+    }
+
+    #[test]
+    fn reads_predicates(rt: HostRuntime) -> Result<(), Fail> {
+        let cases: [(&[u8], &str); 10] = [
             (b"opt _a1", ""),
             (b"optb", "line 1"),
             (b"opt a b", "line 1"),
@@ -221,13 +238,6 @@ mod tests {
         for (bytes, want) in cases {
             assert_eq!(rt; told(rt.alloc(), bytes)?.as_str(), want, "at {bytes:?}");
         }
-        assert!(rt;
-            matches!(
-                read_ended(rt.alloc(), b"format \"a\""),
-                Err(ScriptError::Syntax { line: 1 })
-            ),
-            "a last line without its end"
-        );
         Ok(())
     }
 
