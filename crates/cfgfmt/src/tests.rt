@@ -26,7 +26,7 @@ fn run_over(
 
 #[test]
 fn answers_scripts(rt: HostRuntime) -> Result<(), Fail> {
-    let cases: [(&str, &[u8], &str, usize); 11] = [
+    let cases: [(&str, &[u8], &str, usize); 13] = [
         (
             "",
             b"format \"hi\"",
@@ -62,6 +62,18 @@ fn answers_scripts(rt: HostRuntime) -> Result<(), Fail> {
             "",
             b"opt a\ncfg a\nformat \"x\"\ncfg b\nformat \"q\"\n",
             "0 code Arguments::from_str(s\"78\")\n1 off\n",
+            2,
+        ),
+        (
+            "",
+            b"opt a\ncfg a\nformat \"x{}y{{\" @1\ncfg b\nformat \"q\"\n",
+            "0 code { let #0 = (&@1,); let #0 = [Argument::new_display(#0.0)]; unsafe { Arguments::new(b\"0178C002797B00\", &#0) } }\n1 off\n",
+            2,
+        ),
+        (
+            "",
+            b"format \"{}\" @7\nformat \"{}\"@7",
+            "0 code { let #0 = (&@7,); let #0 = [Argument::new_display(#0.0)]; unsafe { Arguments::new(b\"C000\", &#0) } }\n1 code { let #1 = (&@7,); let #1 = [Argument::new_display(#1.0)]; unsafe { Arguments::new(b\"C000\", &#1) } }\n",
             2,
         ),
         // An option counts wherever it stands, and a predicate behind the last call has no effect.

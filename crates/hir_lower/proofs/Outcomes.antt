@@ -1,6 +1,6 @@
 -- Outcomes stay what they are as the store grows, and one more call has one more outcome.
-use Rattle.std.specs.Prelude.{◌≡◌, ℕ, ◌+◌, ◌<◌, ◌≤◌, zero, suc, List, [], ◌∷◌, ◌++◌, length, take, refl}
-use Rattle.std.proofs.Common.{sym, ◌∙◌, ap, arith, add_assoc, get_or, length-append}
+use Rattle.std.specs.Prelude.{◌≡◌, ℕ, ◌+◌, ◌<◌, ◌≤◌, Bool, true, false, cond, zero, suc, List, [], ◌∷◌, ◌++◌, length, take}
+use Rattle.std.proofs.Common.{sym, ◌∙◌, ap, arith, add_assoc, get_or, length-append, inl, inr}
 use Rattle.std.proofs.lemmas.List.{take_more}
 use Rattle.hir_store.specs.declared.ids.ExprId.{ExprId}
 use Rattle.hir_store.specs.declared.store.ExpressionStore.{ExpressionStore}
@@ -8,6 +8,8 @@ use Rattle.hir_store.specs.Unfolding.{place_of}
 use Rattle.hir_store.specs.Store.{Grows, IsPlaced}
 use Rattle.hir_store.proofs.Grown.{stays, within_later}
 use Rattle.ra_cfg.specs.Options.{Options}
+use Rattle.ra_cfg.specs.Reading.{is_off}
+use Rattle.hir_lower.specs.Building.{Outgrows}
 use Rattle.code_meaning.specs.Value.{Event}
 use Rattle.code_meaning.specs.Evaluation.{evaluation_of}
 use Rattle.code_meaning.specs.Meaning.{Writes}
@@ -16,7 +18,7 @@ use Rattle.hir_lower.specs.declared.call.Call.{Call}
 use Rattle.hir_lower.specs.declared.call.Call.TheVariants.{Format}
 use Rattle.hir_lower.specs.declared.call.Outcome.{Outcome}
 use Rattle.hir_lower.specs.declared.call.Outcome.TheVariants.{Off, Code}
-use Rattle.hir_lower.specs.Lowered.{Runs, IsCode, IsOutcome, AreOutcomes, AreRising, IsFrom, IsInStore, AreInStore, most_of, most_exprs}
+use Rattle.hir_lower.specs.Lowered.{Runs, IsCode, IsOutcome, AreOutcomes, AreRising, IsFrom, IsInStore, AreInStore, most_of_call, most_of, most_exprs, lets_of, most_lets}
 
 module _ (old new : ExpressionStore) (placed : IsPlaced old) (grows : Grows old new) where
   runs_later : (id : ExprId) (events : List Event) (writes : Writes) → Runs old id events writes → Runs new id events writes
@@ -29,7 +31,7 @@ module _ (old new : ExpressionStore) (placed : IsPlaced old) (grows : Grows old 
 
   code_later : (call : Call) (id : ExprId) → IsCode old call id → IsCode new call id
   code_later (Format call) id code = record {
-    writes = λ pieces has. runs_later id _ _ (code.writes pieces has);
+    writes = λ pieces has fits. runs_later id _ _ (code.writes pieces has fits);
     empty = λ none. runs_later id _ _ (code.empty none);
   }
 
@@ -91,6 +93,37 @@ next_call calls i call lt is = take_more calls i call lt ∙ ap (λ (x : GatedCa
 pub most_next : (options : Options) (calls : List GatedCall) (i : ℕ) (call : GatedCall) → take (i + 1) calls ≡ take i calls ++ call ∷ [] → most_exprs options (take i calls) + most_of options call ≤ most_exprs options calls
 most_next options calls i call next = let e = most_take options (i + 1) calls in let f = ap (most_exprs options) next ∙ most_on options (take i calls) call in omega arith
 
+-- and the same of patterns and bindings
+pub lets_on : (options : Options) (calls : List GatedCall) (call : GatedCall) → most_lets options (calls ++ call ∷ []) ≡ most_lets options calls + lets_of options call
+lets_on options [] call = omega arith
+lets_on options (other ∷ calls) call = ap (λ n. lets_of options other + n) (lets_on options calls call) ∙ sym (add_assoc (lets_of options other) (most_lets options calls) (lets_of options call))
+
+lets_take : (options : Options) (n : ℕ) (calls : List GatedCall) → most_lets options (take n calls) ≤ most_lets options calls
+lets_take options zero calls = omega arith
+lets_take options (suc n) [] = omega arith
+lets_take options (suc n) (call ∷ calls) = let h = lets_take options n calls in omega arith
+
+pub lets_next : (options : Options) (calls : List GatedCall) (i : ℕ) (call : GatedCall) → take (i + 1) calls ≡ take i calls ++ call ∷ [] → most_lets options (take i calls) + lets_of options call ≤ most_lets options calls
+lets_next options calls i call next = let e = lets_take options (i + 1) calls in let f = ap (most_lets options) next ∙ lets_on options (take i calls) call in omega arith
+
 -- a store that grew is no shorter
 pub longer : (old new : ExpressionStore) → Grows old new → length old.exprs ≤ length new.exprs
 longer old new grows = omega (arith, ap length grows.exprs.1, length-append old.exprs grows.exprs.0)
+
+-- calls place no more patterns, and no more bindings, than expressions
+lets_below_one : (options : Options) (call : GatedCall) → lets_of options call ≤ most_of options call
+lets_below_one options call = by_off (is_off options call.cfgs) call.call
+  where
+    by_off : (off : Bool) (called : Call) → cond off 0 2 ≤ cond off 0 (most_of_call called)
+    by_off true called = omega arith
+    by_off false (Format call) = omega arith
+
+lets_below : (options : Options) (calls : List GatedCall) → most_lets options calls ≤ most_exprs options calls
+lets_below options [] = omega arith
+lets_below options (call ∷ calls) = let one = lets_below_one options call in let more = lets_below options calls in omega arith
+
+-- where a store without values cannot hold what calls place, they place more expressions than an arena holds
+pub many_exprs : (options : Options) (calls : List GatedCall) (store : ExpressionStore) → store.exprs ≡ [] → store.pats ≡ [] → store.bindings ≡ [] → Outgrows store (most_exprs options calls) (most_lets options calls) → 4_294_967_295 < most_exprs options calls
+many_exprs options calls store exprs pats bindings (inl full) = omega (arith, full, ap length exprs)
+many_exprs options calls store exprs pats bindings (inr (inl full)) = let below = lets_below options calls in omega (arith, full, ap length pats)
+many_exprs options calls store exprs pats bindings (inr (inr full)) = let below = lets_below options calls in omega (arith, full, ap length bindings)

@@ -10,7 +10,7 @@ use Rattle.code_meaning.specs.Write.{Trait, Display, Debug, LowerExp, UpperExp, 
 use Rattle.code_meaning.specs.Value.{Event, LeafEvent, NameEvent, Use, By, AsCount, Values, At, Made, Arguments, FromText}
 use Rattle.code_meaning.specs.Value as value
 use Rattle.code_meaning.specs.Evaluation.{evaluation_of}
-use Rattle.code_meaning.specs.Template.{Item, ByteItem, SlotItem}
+use Rattle.code_meaning.specs.Template.{Item, ByteItem, SlotItem, decoded}
 use Rattle.code_meaning.specs.Meaning.{writes_in}
 use Rattle.hir_lower.specs.Code.{from_str_code}
 
@@ -181,3 +181,7 @@ TextRuns = (args : List Argument) (text : List ℕ) → evaluation_of (text_code
 abbrev pub ReadsBack : Type 0
 ReadsBack = (pairs : List Pair) (pieces : List Piece) → AreAmong pairs (flat_map pairs_of_piece pieces) →
     writes_in (values_of pairs) (flat_map (items_of_piece pairs) pieces) ≡ Some (writes_of At pieces)
+
+-- template bytes decode to at most one list
+abbrev pub DecodesOnce : Type 0
+DecodesOnce = (bytes : List ℕ) (items others : List Item) → decoded bytes ≡ Some items → decoded bytes ≡ Some others → items ≡ others

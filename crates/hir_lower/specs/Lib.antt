@@ -1,7 +1,13 @@
 pub mod Refusal
 pub mod Pieces
-pub mod ReadPieces
+pub mod Parts
 pub mod Code
 pub mod FormatCode
 pub mod Lowered
 pub mod Collector
+pub mod Spelled
+pub mod Form
+pub mod PlainPairs
+pub mod ReadTemplate
+pub mod Building
+pub mod Draft

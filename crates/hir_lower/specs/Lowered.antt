@@ -1,11 +1,12 @@
 -- What the outcomes of calls are: each call is off exactly where one of its predicates reads false; else it has code whose evaluation
 -- runs through and whose value means the writes of the call's text.
-use Rattle.std.specs.Prelude.{◌≡◌, ℕ, ◌+◌, ◌<◌, ◌≤◌, Bool, true, false, cond, suc, List, [], ◌∷◌, length, Some}
+use Rattle.std.specs.Prelude.{◌≡◌, ℕ, ◌+◌, ◌*◌, ◌<◌, ◌≤◌, true, false, cond, suc, List, [], ◌∷◌, length, drop, map, Option, Some, None}
+use Rattle.std.specs.Str.{chars}
 use Rattle.hir_store.specs.declared.ids.ExprId.{ExprId}
 use Rattle.hir_store.specs.declared.store.ExpressionStore.{ExpressionStore}
 use Rattle.hir_store.specs.Unfolding.{place_of, tree_at}
 use Rattle.code_meaning.specs.Write.{Piece, writes_of}
-use Rattle.code_meaning.specs.Value.{Event, Value, At}
+use Rattle.code_meaning.specs.Value.{Event, LeafEvent, Value, At}
 use Rattle.code_meaning.specs.Evaluation.{evaluation_of}
 use Rattle.code_meaning.specs.Meaning.{Writes, meaning}
 use Rattle.ra_cfg.specs.Options.{Options}
@@ -16,7 +17,9 @@ use Rattle.hir_lower.specs.declared.call.Call.TheVariants.{Format}
 use Rattle.hir_lower.specs.declared.call.FormatCall.{FormatCall}
 use Rattle.hir_lower.specs.declared.call.Outcome.{Outcome}
 use Rattle.hir_lower.specs.declared.call.Outcome.TheVariants.{Off, Code}
-use Rattle.hir_lower.specs.Pieces.{HasPieces}
+use Rattle.hir_lower.specs.declared.template_text.Part.{Part}
+use Rattle.hir_lower.specs.Pieces.{HasPieces, placeholders}
+use Rattle.hir_lower.specs.Parts.{parts_of, holes}
 
 -- the code at this place is evaluated with these events, and its value means these writes
 pub record Runs (store : ExpressionStore) (id : ExprId) (events : List Event) (writes : Writes) : Type 0 where
@@ -25,10 +28,15 @@ pub record Runs (store : ExpressionStore) (id : ExprId) (events : List Event) (w
   pub evaluation : evaluation_of (tree_at store id) ≡ Some (events, value)
   pub means : meaning value ≡ Some writes
 
--- the code of a `format_args!` whose text has pieces means the writes of these pieces; a text without pieces counts as empty
+-- the events of a call's arguments: each leaf once, in order
+abbrev pub events_of : FormatCall → List Event
+events_of call = map LeafEvent call.leaves
+
+-- the code of a well formed `format_args!`, one whose text has pieces with as many placeholders as there are leaves, evaluates the leaves
+-- once each, in order, and means the writes of these pieces; a text without pieces counts as empty
 pub record IsFormatCode (store : ExpressionStore) (call : FormatCall) (id : ExprId) : Type 0 where
-  pub writes : (pieces : List Piece) → HasPieces call.template pieces → Runs store id [] (writes_of At pieces)
-  pub empty : ((pieces : List Piece) → HasPieces call.template pieces → ⊥) → Runs store id [] []
+  pub writes : (pieces : List Piece) → HasPieces call.template pieces → placeholders pieces ≡ length call.leaves → Runs store id (events_of call) (writes_of At pieces)
+  pub empty : ((pieces : List Piece) → HasPieces call.template pieces → ⊥) → Runs store id (events_of call) []
 
 -- the code of a call
 abbrev pub IsCode : ExpressionStore → Call → ExprId → Type 0
@@ -67,11 +75,35 @@ abbrev pub AreInStore : ExpressionStore → List Outcome → Type 0
 AreInStore store [] = Unit {0}
 AreInStore store (outcome ∷ outcomes) = IsInStore store outcome × AreInStore store outcomes
 
--- the most expressions that a call places: none where it is off
+-- how many placeholders a text has; none where it has no pieces
+abbrev pub count_of : Option (List Part) → ℕ
+count_of None = 0
+count_of (Some parts) = holes parts
+
+abbrev pub pairs_in : FormatCall → ℕ
+pairs_in call = count_of (parts_of (chars call.template))
+
+-- the most expressions that a call of n leaves and p placeholders places: 2n + 4p + 9, and one for each leaf behind the first p
+abbrev pub most_of_format : FormatCall → ℕ
+most_of_format call = 2 * length call.leaves + 4 * pairs_in call + length (drop (pairs_in call) call.leaves) + 9
+
+abbrev pub most_of_call : Call → ℕ
+most_of_call (Format call) = most_of_format call
+
+-- the most expressions that a gated call places: none where it is off
 abbrev pub most_of : Options → GatedCall → ℕ
-most_of options call = cond (is_off options call.cfgs) 0 9
+most_of options call = cond (is_off options call.cfgs) 0 (most_of_call call.call)
 
 -- the most expressions that calls place
 abbrev pub most_exprs : Options → List GatedCall → ℕ
 most_exprs options [] = 0
 most_exprs options (call ∷ calls) = most_of options call + most_exprs options calls
+
+-- the most patterns that a gated call places, and the most bindings: none where it is off
+abbrev pub lets_of : Options → GatedCall → ℕ
+lets_of options call = cond (is_off options call.cfgs) 0 2
+
+-- the most patterns that calls place, and the most bindings
+abbrev pub most_lets : Options → List GatedCall → ℕ
+most_lets options [] = 0
+most_lets options (call ∷ calls) = lets_of options call + most_lets options calls

@@ -24,6 +24,8 @@ pub enum Call {
 pub struct FormatCall {
     /// The format text: what its string literal stands for.
     pub template: Symbol,
+    /// The arguments, in order: each an expression of the source, by its number.
+    pub leaves: Items<u32>,
 }
 
 /// What becomes of a call.

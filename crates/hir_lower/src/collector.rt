@@ -1,7 +1,8 @@
 ghost use Rattle.std.specs.Prelude.{◌≡◌, ◌≢◌, ◌+◌, ◌<◌, ◌≤◌, [], ◌∷◌, ◌++◌, length, IfOk};
 ghost use Rattle.hir_store.specs.Unfolding.{place_of};
 ghost use Rattle.hir_store.specs.Store.{Grows, IsPlaced};
-ghost use Rattle.hir_lower.specs.Lowered.{AreOutcomes, IsOutcome, IsCode, AreRising, IsFrom, IsInStore, AreInStore, most_of, most_exprs};
+ghost use Rattle.hir_lower.specs.Building.{Builds, Outgrows};
+ghost use Rattle.hir_lower.specs.Lowered.{AreOutcomes, IsOutcome, IsCode, AreRising, IsFrom, IsInStore, AreInStore, most_of_call, most_of, most_exprs, lets_of, most_lets};
 ghost use Rattle.ra_cfg.specs.Reading.{is_off};
 
 use crate::format_args::collect_format_args;
@@ -15,6 +16,8 @@ use std::marker::Model;
 #[derive(Debug, Drop)]
 pub struct ExprCollector {
     store: ExpressionStore,
+    // How many fresh names have a binding.
+    fresh: u32,
 }
 
 impl Model for ExprCollector {
@@ -38,6 +41,7 @@ impl ExprCollector {
     {
         ExprCollector {
             store: ExpressionStore::new(alloc),
+            fresh: 0,
         }
     }
 
@@ -58,8 +62,9 @@ impl ExprCollector {
     ///
     /// # Errors
     ///
-    /// `ArenaFull` comes only where the expressions at entry and the most that the calls place, nine for each that is
-    /// not off, pass 4,294,967,295.
+    /// `ArenaFull` comes only where the expressions, the patterns or the bindings at entry and the most that the calls
+    /// place pass 4,294,967,295. A call of n arguments and n placeholders that is not off places at most 6n + 9
+    /// expressions, two patterns and two bindings.
     pub fn collect_gated(
         &mut self,
         alloc: Global,
@@ -72,11 +77,11 @@ impl ExprCollector {
 
         ensures older { Grows self.old.store self.new.store }
         ensures count { length self.new.store.exprs ≤ length self.old.store.exprs + most_exprs opts.now calls.now }
-        ensures patterns { self.new.store.pats ≡ self.old.store.pats }
-        ensures bindings { self.new.store.bindings ≡ self.old.store.bindings }
-        ensures full { result ≡ Err LowerError.ArenaFull → 4_294_967_295 < length self.old.store.exprs + most_exprs opts.now calls.now }
+        ensures patterns { length self.new.store.pats ≤ length self.old.store.pats + most_lets opts.now calls.now }
+        ensures bindings { length self.new.store.bindings ≤ length self.old.store.bindings + most_lets opts.now calls.now }
+        ensures full { result ≡ Err LowerError.ArenaFull → Outgrows self.old.store (most_exprs opts.now calls.now) (most_lets opts.now calls.now) }
     {
-        collect_all(alloc, &mut self.store, calls, opts)
+        collect_all(alloc, &mut self.store, &mut self.fresh, calls, opts)
     }
 }
 
@@ -84,6 +89,7 @@ impl ExprCollector {
 fn collect_all(
     alloc: Global,
     store: &mut ExpressionStore,
+    fresh: &mut u32,
     calls: &[GatedCall],
     opts: &CfgOptions,
 ) -> Result<Vec<Outcome>, LowerError>
@@ -91,16 +97,12 @@ fn collect_all(
     ensures outcomes { IfOk result (λ outcomes. AreOutcomes opts.now store.new calls.now outcomes.items) }
     ensures rising { IfOk result (λ outcomes. AreRising (length store.old.exprs) outcomes.items) }
     ensures within { IfOk result (λ outcomes. AreInStore store.new outcomes.items) }
-    ensures older { Grows store.old store.new }
-    ensures placed { IsPlaced store.new }
-    ensures count { length store.new.exprs ≤ length store.old.exprs + most_exprs opts.now calls.now }
-    ensures patterns { store.new.pats ≡ store.old.pats }
-    ensures bindings { store.new.bindings ≡ store.old.bindings }
-    ensures full { result ≡ Err LowerError.ArenaFull → 4_294_967_295 < length store.old.exprs + most_exprs opts.now calls.now }
+    ensures builds { Builds store.old store.new (most_exprs opts.now calls.now) (most_lets opts.now calls.now) }
+    ensures full { result ≡ Err LowerError.ArenaFull → Outgrows store.old (most_exprs opts.now calls.now) (most_lets opts.now calls.now) }
 {
     let mut outcomes = Vec::new(alloc);
     for call in calls {
-        let outcome = collect_call(alloc, store, call, opts)?;
+        let outcome = collect_call(alloc, store, fresh, call, opts)?;
         outcomes = with_outcome(outcomes, outcome)?;
     }
     Ok(outcomes)
@@ -133,43 +135,59 @@ fn is_off(cfgs: &[CfgExpr], opts: &CfgOptions) -> bool
 fn collect_call(
     alloc: Global,
     store: &mut ExpressionStore,
+    fresh: &mut u32,
     call: &GatedCall,
     opts: &CfgOptions,
 ) -> Result<Outcome, LowerError>
     ensures outcome { IfOk result (λ outcome. IsOutcome opts.now store.new call.now outcome) }
     ensures within { IfOk result (λ outcome. IsInStore store.new outcome) }
     ensures later { IfOk result (λ outcome. IsFrom (length store.old.exprs) outcome) }
-    ensures older { Grows store.old store.new }
-    ensures placed { IsPlaced store.old → IsPlaced store.new }
-    ensures count { length store.new.exprs ≤ length store.old.exprs + most_of opts.now call.now }
-    ensures patterns { store.new.pats ≡ store.old.pats }
-    ensures bindings { store.new.bindings ≡ store.old.bindings }
-    ensures full { result ≡ Err LowerError.ArenaFull → 4_294_967_295 < length store.old.exprs + most_of opts.now call.now }
+    ensures builds { Builds store.old store.new (most_of opts.now call.now) (lets_of opts.now call.now) }
+    ensures full { result ≡ Err LowerError.ArenaFull → Outgrows store.old (most_of opts.now call.now) (lets_of opts.now call.now) }
 {
     if is_off(call.cfgs.as_slice(), opts) {
         return Ok(Outcome::Off);
     }
-    let code = collect_code(alloc, store, &call.call)?;
+    let code = collect_active(alloc, store, fresh, &call.call)?;
     Ok(Outcome::Code(code))
 }
 
-// Lowers one call that is not off.
-fn collect_code(
+// Lowers one call that is not off. A fresh name whose binding was placed is used up, after a refusal too.
+fn collect_active(
     alloc: Global,
     store: &mut ExpressionStore,
+    fresh: &mut u32,
     call: &Call,
 ) -> Result<ExprId, LowerError>
     ensures code { IfOk result (λ id. IsCode store.new call.now id) }
     ensures within { IfOk result (λ id. place_of id < length store.new.exprs) }
     ensures later { IfOk result (λ id. length store.old.exprs ≤ place_of id) }
-    ensures older { Grows store.old store.new }
-    ensures placed { IsPlaced store.old → IsPlaced store.new }
-    ensures count { length store.new.exprs ≤ length store.old.exprs + 9 }
-    ensures patterns { store.new.pats ≡ store.old.pats }
-    ensures bindings { store.new.bindings ≡ store.old.bindings }
-    ensures full { result ≡ Err LowerError.ArenaFull → 4_294_967_295 < length store.old.exprs + 9 }
+    ensures builds { Builds store.old store.new (most_of_call call.now) 2 }
+    ensures full { result ≡ Err LowerError.ArenaFull → Outgrows store.old (most_of_call call.now) 2 }
+{
+    let bound = store.bindings.len();
+    let code = collect_code(alloc, store, *fresh, call);
+    if bound < store.bindings.len() {
+        // There are no more of them than bindings, so this never stays where it was.
+        *fresh = fresh.saturating_add(1);
+    }
+    code
+}
+
+// Lowers one call, where the next fresh name has this number.
+fn collect_code(
+    alloc: Global,
+    store: &mut ExpressionStore,
+    fresh: u32,
+    call: &Call,
+) -> Result<ExprId, LowerError>
+    ensures code { IfOk result (λ id. IsCode store.new call.now id) }
+    ensures within { IfOk result (λ id. place_of id < length store.new.exprs) }
+    ensures later { IfOk result (λ id. length store.old.exprs ≤ place_of id) }
+    ensures builds { Builds store.old store.new (most_of_call call.now) 2 }
+    ensures full { result ≡ Err LowerError.ArenaFull → Outgrows store.old (most_of_call call.now) 2 }
 {
     match call {
-        Call::Format(f) => collect_format_args(alloc, store, f),
+        Call::Format(f) => collect_format_args(alloc, store, fresh, f),
     }
 }

@@ -3,14 +3,17 @@
 #![tactic(auto)]
 
 mod call;
+mod code;
 mod collector;
 mod error;
 mod format_args;
 mod laws;
+mod template;
+mod template_text;
 #[cfg(test)]
 mod tests;
 
 pub use call::{Call, FormatCall, GatedCall, Outcome};
 pub use collector::ExprCollector;
 pub use error::LowerError;
-pub use laws::code_runs_once;
+pub use laws::{bytes_decode_once, code_runs_once};

@@ -26,7 +26,7 @@ options_more o [] more = refl
 options_more o (Blank ∷ values) more = options_more o values more
 options_more o (OptItem name ∷ values) more = options_more (with_flag o name) values more
 options_more o (CfgItem predicate ∷ values) more = options_more o values more
-options_more o (FormatItem template ∷ values) more = options_more o values more
+options_more o (FormatItem template leaves ∷ values) more = options_more o values more
 
 -- the predicates that wait behind items and more items
 waiting_more : (waiting : List CfgExpr) (values more : List Item) → waiting_behind waiting (values ++ more) ≡ waiting_behind (waiting_behind waiting values) more
@@ -34,7 +34,7 @@ waiting_more waiting [] more = refl
 waiting_more waiting (Blank ∷ values) more = waiting_more waiting values more
 waiting_more waiting (OptItem name ∷ values) more = waiting_more waiting values more
 waiting_more waiting (CfgItem predicate ∷ values) more = waiting_more (waiting ++ predicate ∷ []) values more
-waiting_more waiting (FormatItem template ∷ values) more = waiting_more [] values more
+waiting_more waiting (FormatItem template leaves ∷ values) more = waiting_more [] values more
 
 -- the calls of items and of more items
 calls_more : (waiting : List CfgExpr) (values more : List Item) → calls_behind waiting (values ++ more) ≡ calls_behind waiting values ++ calls_behind (waiting_behind waiting values) more
@@ -42,8 +42,8 @@ calls_more waiting [] more = refl
 calls_more waiting (Blank ∷ values) more = calls_more waiting values more
 calls_more waiting (OptItem name ∷ values) more = calls_more waiting values more
 calls_more waiting (CfgItem predicate ∷ values) more = calls_more (waiting ++ predicate ∷ []) values more
-calls_more waiting (FormatItem template ∷ values) more =
-    ap (λ l. record { cfgs = waiting; call = Format (record { template = template }) } ∷ l) (calls_more [] values more)
+calls_more waiting (FormatItem template leaves ∷ values) more =
+    ap (λ l. record { cfgs = waiting; call = Format (record { template = template; leaves = leaves }) } ∷ l) (calls_more [] values more)
 
 -- what items and more items give
 has_read_more : (old new : Reading) (values more : List Item) → HasRead old values → GoesOn old more new → HasRead new (values ++ more)

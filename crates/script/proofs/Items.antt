@@ -1,25 +1,27 @@
 -- Each kind of item is found where it stands, and stands where it is found.
-use Rattle.std.proofs.Common.{◌≡◌, ℕ, ◌+◌, ◌<◌, true, false, cond, List, [], ◌∷◌, ◌++◌, length, Option, Some, None, refl, ap, ◌∙◌, sym, subst, append_assoc, length-append, codes, arith}
+use Rattle.std.proofs.Common.{◌≡◌, ℕ, ◌+◌, ◌<◌, true, false, cond, List, [], ◌∷◌, ◌++◌, length, Option, Some, None, refl, ap, ◌∙◌, sym, subst, eq-eqb, nat_eq, append_assoc, length-append, codes, arith}
 use Rattle.std.specs.Option.{option_map, option_and_then}
-use Rattle.std.specs.Str.{chars, encode_utf8_all}
+use Rattle.std.specs.Str.{encode_utf8_all}
+use Rattle.std.proofs.lemmas.Bool.Decides.{nat_tests}
 use Rattle.std.proofs.lemmas.Option.{option_and_then_some, same_Some}
 use Rattle.text_cut.specs.Runs.{starts, size, AllPass, is_blank}
 use Rattle.text_cut.specs.Place.{Place, place, past, Took}
 use Rattle.text_cut.specs.Rules.{Spells, past_word}
-use Rattle.text_cut.specs.Reading.{Spelled, texts, ReadsPieces, StepsBy, IgnoresRest}
+use Rattle.text_cut.specs.Reading.{Spelled, texts, items, AreSpelled, ReadsPieces, StepsBy, IgnoresRest}
 use Rattle.text_cut.proofs.Sizes.{size_append}
 use Rattle.text_cut.proofs.Rules.{took_both, word_found}
 use Rattle.text_cut.proofs.Options.{mapped, chosen, none_some}
 use Rattle.ra_cfg.specs.declared.cfg_expr.CfgAtom.TheVariants.{Flag}
 use Rattle.ra_cfg.specs.declared.cfg_expr.CfgExpr.{Atom}
 use Rattle.code_meaning.specs.Write.{Piece}
-use Rattle.hir_lower.specs.Pieces.{HasPieces}
-use Rattle.script.specs.Script.{Item, Blank, OptItem, CfgItem, FormatItem, is_plain, IsItem, IsWordLine}
-use Rattle.script.specs.ReadItem.{past_line, string_at, is_doubled, name_at, opt_at, cfg_at, call_behind, format_at, or_else, keyword_item, item_behind, item_at}
+use Rattle.hir_lower.specs.Pieces.{placeholders, HasPieces}
+use Rattle.script.specs.Script.{Item, Blank, OptItem, CfgItem, FormatItem, is_plain, continues_word, IsLeaf, IsItem, IsWordLine}
+use Rattle.script.specs.ReadItem.{past_line, string_at, number_at, leaf_at, leaves_at, holes_of, name_at, opt_at, cfg_at, counted_call, call_behind, format_at, or_else, keyword_item, item_behind, item_at}
 use Rattle.script.specs.ReadCalls.{no_state}
 use Rattle.script.proofs.Strings.{RunAndWord, StringIs, past_run, run_then, run_then_is, string_found, string_is}
-use Rattle.script.proofs.Names.{LineIs, name_found, line_is}
-use Rattle.script.proofs.Doubled.{pieces_doubled, doubled_pieces}
+use Rattle.script.proofs.Names.{LineIs, blank_ends, name_found, line_is}
+use Rattle.script.proofs.Placeholders.{HasHoles, holes_found, holes_are}
+use Rattle.script.proofs.Leaves.{LeavesAre, leaves_before, leaves_found, leaves_are}
 
 -- one answer or the other
 or_else_is : {A C : Type 0} (o : Option Place) (reader : Place → Option A) (other : Option A) (r : A) → or_else o reader other ≡ Some r → ((p : Place) → o ≡ Some p → reader p ≡ Some r → C) → (other ≡ Some r → C) → C
@@ -33,41 +35,62 @@ blank_found blanks rest at are =
     ∙ (ap (λ p. item_behind p) (past_run is_blank blanks (10 ∷ rest) at are refl)
     ∙ ap (λ n. Some (Blank, place n rest)) (omega (arith, size_append blanks (10 ∷ []))))
 
+-- blanks and a line's end go on no word, and begin no leaf
+line_ends : (after rest : List ℕ) → AllPass is_blank after → starts continues_word (after ++ 10 ∷ rest) ≡ false
+line_ends [] rest are = refl
+line_ends (c ∷ after) rest are = blank_ends c are.0
+
+no_leaf : (after rest : List ℕ) (at : ℕ) → AllPass is_blank after → leaf_at (place at (after ++ 10 ∷ rest)) ≡ None
+no_leaf after rest at ends = ap (λ p. option_and_then number_at (past_word (64 ∷ []) p)) (past_run is_blank after (10 ∷ rest) at ends refl)
+
+-- a call's leaves and the end of its line are found
+counted_found : (text : List ℕ) (count : ℕ) (spelled : List (Spelled ℕ)) (after rest : List ℕ) (at : ℕ) → AllPass is_blank after → AreSpelled IsLeaf [] spelled (after ++ 10 ∷ []) → count ≡ length (items spelled) → counted_call text (Some count) (leaves_at (place at (texts spelled ++ (after ++ (10 ∷ rest))))) ≡ Some (FormatItem text (items spelled), place ((at + size (texts spelled)) + size (after ++ 10 ∷ [])) rest)
+counted_found text count spelled after rest at ends are fits =
+    let line = after ++ (10 ∷ rest) in
+    let behind = at + size (texts spelled) in
+    let found : leaves_at (place at (texts spelled ++ line)) ≡ (items spelled, place behind line) =
+    leaves_found (length (texts spelled ++ line)) [] spelled line at (leaves_before [] spelled (after ++ 10 ∷ []) line (line_ends after rest ends) are) (λ n. no_leaf after rest n ends) (omega (arith, length-append (texts spelled) line)) in
+    ap (λ r. counted_call text (Some count) r) found
+    ∙ (ap (λ b. cond b (option_map (λ (e : Place). (FormatItem text (items spelled), e)) (past_line (place behind line))) None) (eq-eqb (length (items spelled)) count (sym fits))
+    ∙ ap (λ o. option_map (λ (e : Place). (FormatItem text (items spelled), e)) o) (run_then is_blank (10 ∷ []) after rest behind ends refl))
+
 -- a call is found behind its word
-format_found : (between string after rest : List ℕ) (at : ℕ) (pieces : List Piece) → AllPass is_blank between → AllPass is_plain string → AllPass is_blank after → HasPieces (encode_utf8_all string) pieces → format_at (place at (between ++ (34 ∷ (string ++ (34 ∷ (after ++ (10 ∷ rest))))))) ≡ Some (FormatItem (encode_utf8_all string), place (((at + size (between ++ 34 ∷ [])) + size (string ++ 34 ∷ [])) + size (after ++ 10 ∷ [])) rest)
-format_found between string after rest at pieces blanks plain ends has =
+format_found : (between string : List ℕ) (spelled : List (Spelled ℕ)) (after rest : List ℕ) (at : ℕ) (pieces : List Piece) → AllPass is_blank between → AllPass is_plain string → AllPass is_blank after → HasPieces (encode_utf8_all string) pieces → AreSpelled IsLeaf [] spelled (after ++ 10 ∷ []) → placeholders pieces ≡ length (items spelled) → format_at (place at (between ++ (34 ∷ (string ++ (34 ∷ (texts spelled ++ (after ++ (10 ∷ rest)))))))) ≡ Some (FormatItem (encode_utf8_all string) (items spelled), place ((((at + size (between ++ 34 ∷ [])) + size (string ++ 34 ∷ [])) + size (texts spelled)) + size (after ++ 10 ∷ [])) rest)
+format_found between string spelled after rest at pieces blanks plain ends has are fits =
     let behind_string = (at + size (between ++ 34 ∷ [])) + size (string ++ 34 ∷ []) in
-    ap (λ o. option_and_then call_behind o) (string_found between string (after ++ (10 ∷ rest)) at blanks plain)
-    ∙ (ap (λ b. cond b (option_map (λ e. (FormatItem (encode_utf8_all string), e)) (past_line (place behind_string (after ++ (10 ∷ rest))))) None) (pieces_doubled (encode_utf8_all string) pieces has)
-    ∙ ap (λ o. option_map (λ e. (FormatItem (encode_utf8_all string), e)) o) (run_then is_blank (10 ∷ []) after rest behind_string ends refl))
+    let more = texts spelled ++ (after ++ (10 ∷ rest)) in
+    ap (λ o. option_and_then call_behind o) (string_found between string more at blanks plain)
+    ∙ (ap (λ o. counted_call (encode_utf8_all string) o (leaves_at (place behind_string more))) (holes_found (encode_utf8_all string) pieces has)
+    ∙ counted_found (encode_utf8_all string) (placeholders pieces) spelled after rest behind_string ends are fits)
 
 -- the spelling of a call in front of what follows
-abbrev format_line : List ℕ → List ℕ → List ℕ → List ℕ → List ℕ → List ℕ
-format_line before between string after rest = before ++ (codes "format" ++ (between ++ (34 ∷ (string ++ (34 ∷ (after ++ (10 ∷ rest)))))))
+abbrev format_line : List ℕ → List ℕ → List ℕ → List ℕ → List ℕ → List ℕ → List ℕ
+format_line before between string leaves after rest = before ++ (codes "format" ++ (between ++ (34 ∷ (string ++ (34 ∷ (leaves ++ (after ++ (10 ∷ rest))))))))
 
-format_line_rest : (before between string after rest : List ℕ) → format_line before between string after [] ++ rest ≡ format_line before between string after rest
-format_line_rest before between string after rest = simp append_assoc
+format_line_rest : (before between string leaves after rest : List ℕ) → format_line before between string leaves after [] ++ rest ≡ format_line before between string leaves after rest
+format_line_rest before between string leaves after rest = simp append_assoc
 
-format_line_size : (before between string after : List ℕ) (at : ℕ) → ((((at + size before) + size (codes "format")) + size (between ++ 34 ∷ [])) + size (string ++ 34 ∷ [])) + size (after ++ 10 ∷ []) ≡ at + size (format_line before between string after [])
-format_line_size before between string after at = omega (
+format_line_size : (before between string leaves after : List ℕ) (at : ℕ) → (((((at + size before) + size (codes "format")) + size (between ++ 34 ∷ [])) + size (string ++ 34 ∷ [])) + size leaves) + size (after ++ 10 ∷ []) ≡ at + size (format_line before between string leaves after [])
+format_line_size before between string leaves after at = omega (
   arith,
-  size_append before (codes "format" ++ (between ++ (34 ∷ (string ++ (34 ∷ (after ++ (10 ∷ []))))))),
+  size_append before (codes "format" ++ (between ++ (34 ∷ (string ++ (34 ∷ (leaves ++ (after ++ (10 ∷ [])))))))),
   size_append between (34 ∷ []),
-  size_append between (34 ∷ (string ++ (34 ∷ (after ++ (10 ∷ []))))),
+  size_append between (34 ∷ (string ++ (34 ∷ (leaves ++ (after ++ (10 ∷ [])))))),
   size_append string (34 ∷ []),
-  size_append string (34 ∷ (after ++ (10 ∷ []))),
+  size_append string (34 ∷ (leaves ++ (after ++ (10 ∷ [])))),
+  size_append leaves (after ++ (10 ∷ [])),
   size_append after (10 ∷ []),
 )
 
 -- a call is found
-call_found : (before between string after rest : List ℕ) (at : ℕ) (pieces : List Piece) → AllPass is_blank before → AllPass is_blank between → AllPass is_plain string → AllPass is_blank after → HasPieces (encode_utf8_all string) pieces → item_at (place at (format_line before between string after [] ++ rest)) ≡ Some (FormatItem (encode_utf8_all string), place (at + size (format_line before between string after [])) rest)
-call_found before between string after rest at pieces front blanks plain ends has =
-    let more = between ++ (34 ∷ (string ++ (34 ∷ (after ++ (10 ∷ rest))))) in
-    ap (λ l. item_at (place at l)) (format_line_rest before between string after rest)
+call_found : (before between string : List ℕ) (spelled : List (Spelled ℕ)) (after rest : List ℕ) (at : ℕ) (pieces : List Piece) → AllPass is_blank before → AllPass is_blank between → AllPass is_plain string → AllPass is_blank after → HasPieces (encode_utf8_all string) pieces → AreSpelled IsLeaf [] spelled (after ++ 10 ∷ []) → placeholders pieces ≡ length (items spelled) → item_at (place at (format_line before between string (texts spelled) after [] ++ rest)) ≡ Some (FormatItem (encode_utf8_all string) (items spelled), place (at + size (format_line before between string (texts spelled) after [])) rest)
+call_found before between string spelled after rest at pieces front blanks plain ends has are fits =
+    let more = between ++ (34 ∷ (string ++ (34 ∷ (texts spelled ++ (after ++ (10 ∷ rest)))))) in
+    ap (λ l. item_at (place at l)) (format_line_rest before between string (texts spelled) after rest)
     ∙ (ap (λ p. item_behind p) (past_run is_blank before (codes "format" ++ more) at front refl)
     ∙ (ap (λ o. or_else o format_at None) (word_found (codes "format") (at + size before) more)
-    ∙ (format_found between string after rest ((at + size before) + size (codes "format")) pieces blanks plain ends has
-    ∙ ap (λ n. Some (FormatItem (encode_utf8_all string), place n rest)) (format_line_size before between string after at))))
+    ∙ (format_found between string spelled after rest ((at + size before) + size (codes "format")) pieces blanks plain ends has are fits
+    ∙ ap (λ n. Some (FormatItem (encode_utf8_all string) (items spelled), place n rest)) (format_line_size before between string (texts spelled) after at))))
 
 -- the spelling of a keyword and a word in front of what follows
 abbrev word_line : List ℕ → List ℕ → List ℕ → List ℕ → List ℕ → List ℕ → List ℕ
@@ -123,63 +146,85 @@ item_found before at text Blank rest is =
 item_found before at text (OptItem name) rest is = opt_found text name rest at is
 item_found before at text (CfgItem predicate) rest is =
     subst (λ e. item_at (place at (text ++ rest)) ≡ Some (CfgItem e, place (at + size text) rest)) (sym is.flag) (cfg_found text is.name rest at is.line)
-item_found before at text (FormatItem template) rest is =
+item_found before at text (FormatItem template leaves) rest is =
     let has : HasPieces (encode_utf8_all is.string) is.pieces = subst (λ l. HasPieces l is.pieces) is.value is.has_pieces in
-    subst (λ l. item_at (place at (l ++ rest)) ≡ Some (FormatItem template, place (at + size l) rest)) (sym is.whole)
-    (subst (λ t. item_at (place at (format_line is.before is.between is.string is.after [] ++ rest)) ≡ Some (FormatItem t, place (at + size (format_line is.before is.between is.string is.after [])) rest)) (sym is.value)
-    (call_found is.before is.between is.string is.after rest at is.pieces is.blank_before is.blank_between is.plain is.blank_after has))
+    let line = format_line is.before is.between is.string (texts is.spelled) is.after [] in
+    subst (λ l. item_at (place at (l ++ rest)) ≡ Some (FormatItem template leaves, place (at + size l) rest)) (sym is.whole)
+    (call_found is.before is.between is.string is.spelled is.after rest at is.pieces is.blank_before is.blank_between is.plain is.blank_after has is.are_leaves (is.fits ∙ ap length is.leaves_are)
+    ∙ (ap (λ t. Some (FormatItem t (items is.spelled), place (at + size line) rest)) (sym is.value)
+    ∙ ap (λ l. Some (FormatItem template l, place (at + size line) rest)) (sym is.leaves_are)))
 
 -- a call behind its word stands between two places
 record CallIs (here : Place) (r : Item × Place) : Type 0 where
   between : List ℕ
   string : List ℕ
+  spelled : List (Spelled ℕ)
   after : List ℕ
   template : List ℕ
-  is : r.0 ≡ FormatItem template
-  took : Took here r.1 (((between ++ 34 ∷ []) ++ (string ++ 34 ∷ [])) ++ (after ++ 10 ∷ []))
+  leaves : List ℕ
+  is : r.0 ≡ FormatItem template leaves
+  took : Took here r.1 (((between ++ 34 ∷ []) ++ (string ++ 34 ∷ [])) ++ (texts spelled ++ (after ++ 10 ∷ [])))
   blank_between : AllPass is_blank between
   plain : AllPass is_plain string
   blank_after : AllPass is_blank after
   value : template ≡ encode_utf8_all string
-  has : (pieces : List Piece) × HasPieces template pieces
+  has : HasHoles template (length leaves)
+  are_leaves : AreSpelled IsLeaf [] spelled (after ++ 10 ∷ [])
+  leaves_are : leaves ≡ items spelled
 
 -- where the end of a call's line is found, the call stands
-ended_is : (here : Place) (string : List ℕ × Place) (e : Place) → StringIs here string → is_doubled None (chars string.0) ≡ true → past_line string.1 ≡ Some e → CallIs here (FormatItem string.0, e)
-ended_is here string e is doubled end =
-    let line : RunAndWord is_blank (10 ∷ []) string.1 e = run_then_is is_blank (10 ∷ []) string.1 e end in
+ended_is : (here : Place) (string leaves : List ℕ × Place) (e : Place) → StringIs here string → LeavesAre string.1 leaves → HasHoles string.0 (length leaves.0) → past_line leaves.1 ≡ Some e → CallIs here (FormatItem string.0 leaves.0, e)
+ended_is here string leaves e is are has end =
+    let line : RunAndWord is_blank (10 ∷ []) leaves.1 e = run_then_is is_blank (10 ∷ []) leaves.1 e end in
     record {
       between = is.blanks;
       string = is.string;
+      spelled = are.spelled;
       after = line.run;
       template = string.0;
+      leaves = leaves.0;
       is = refl;
-      took = took_both here string.1 e ((is.blanks ++ 34 ∷ []) ++ (is.string ++ 34 ∷ [])) (line.run ++ 10 ∷ []) is.took line.took;
+      took = took_both here string.1 e ((is.blanks ++ 34 ∷ []) ++ (is.string ++ 34 ∷ [])) (texts are.spelled ++ (line.run ++ 10 ∷ [])) is.took
+          (took_both string.1 leaves.1 e (texts are.spelled) (line.run ++ 10 ∷ []) are.took line.took);
       blank_between = is.are_blanks;
       plain = is.plain;
       blank_after = line.pass;
       value = is.value;
-      has = doubled_pieces string.0 doubled;
+      has = has;
+      are_leaves = leaves_before [] are.spelled leaves.1.left (line.run ++ 10 ∷ []) (line_ends line.run [] line.pass) (are.are []);
+      leaves_are = are.leaves_are;
     }
+
+is_count : (n count : ℕ) → nat_eq n count ≡ true → count ≡ n
+is_count n count e = grind (arith, nat_tests)
+
+-- where a call is found behind its string, it stands
+counted_is : (here : Place) (string leaves : List ℕ × Place) (o : Option ℕ) (r : Item × Place) → StringIs here string → LeavesAre string.1 leaves → holes_of string.0 ≡ o → counted_call string.0 o leaves ≡ Some r → CallIs here r
+counted_is here string leaves None r is are holes found = absurd (none_some r found)
+counted_is here string leaves (Some count) r is are holes found =
+    chosen (nat_eq (length leaves.0) count) (option_map (λ (e : Place). (FormatItem string.0 leaves.0, e)) (past_line leaves.1)) None (Some r) found
+    (λ fits ended. mapped (λ (e : Place). (FormatItem string.0 leaves.0, e)) (past_line leaves.1) r ended
+    (λ e end same. subst (λ z. CallIs here z) same
+    (ended_is here string leaves e is are (holes_are string.0 (length leaves.0) (holes ∙ ap (λ n. Some n) (is_count (length leaves.0) count fits))) end)))
+    (λ other none. absurd (none_some r none))
 
 -- where a call is found behind its word, it stands
 call_is : (here : Place) (r : Item × Place) → format_at here ≡ Some r → CallIs here r
 call_is here r found = option_and_then_some call_behind (string_at here) r found
-    (λ string there behind. chosen (is_doubled None (chars string.0)) (option_map (λ e. (FormatItem string.0, e)) (past_line string.1)) None (Some r) behind
-    (λ doubled ended. mapped (λ (e : Place). (FormatItem string.0, e)) (past_line string.1) r ended
-    (λ e end same. subst (λ z. CallIs here z) same (ended_is here string e (string_is here string there) doubled end)))
-    (λ single none. absurd (none_some r none)))
+    (λ string there behind. counted_is here string (leaves_at string.1) (holes_of string.0) r (string_is here string there) (leaves_are (length string.1.left) string.1) refl behind)
 
 -- a call with its word stands where it is found
 format_is : (before : List (Spelled Item)) (p b : Place) (r : Item × Place) → RunAndWord is_blank (codes "format") p b → CallIs b r → Spells (λ at. IsItem before) p r
 format_is before p b r word is =
-    let text = (word.run ++ codes "format") ++ (((is.between ++ 34 ∷ []) ++ (is.string ++ 34 ∷ [])) ++ (is.after ++ 10 ∷ [])) in
+    let text = (word.run ++ codes "format") ++ (((is.between ++ 34 ∷ []) ++ (is.string ++ 34 ∷ [])) ++ (texts is.spelled ++ (is.after ++ 10 ∷ []))) in
     record {
       text = text;
-      took = took_both p b r.1 (word.run ++ codes "format") (((is.between ++ 34 ∷ []) ++ (is.string ++ 34 ∷ [])) ++ (is.after ++ 10 ∷ [])) word.took is.took;
+      took = took_both p b r.1 (word.run ++ codes "format") (((is.between ++ 34 ∷ []) ++ (is.string ++ 34 ∷ [])) ++ (texts is.spelled ++ (is.after ++ 10 ∷ []))) word.took is.took;
       rule = subst (λ v. IsItem before text v r.1.left) (sym is.is) (record {
         before = word.run;
         between = is.between;
         string = is.string;
+        spelled = is.spelled;
         after = is.after;
         whole = simp append_assoc;
         blank_before = word.pass;
@@ -187,8 +232,11 @@ format_is before p b r word is =
         blank_after = is.blank_after;
         plain = is.plain;
         value = is.value;
-        pieces = is.has.0;
-        has_pieces = is.has.1;
+        pieces = is.has.pieces;
+        has_pieces = is.has.has;
+        are_leaves = is.are_leaves;
+        leaves_are = is.leaves_are;
+        fits = is.has.fits;
       });
     }
 
@@ -236,8 +284,8 @@ item_some before text (OptItem name) rest is =
     omega (arith, ap length is.whole, length-append is.before (codes "opt" ++ (is.between ++ (is.word ++ (is.after ++ 10 ∷ [])))))
 item_some before text (CfgItem predicate) rest is =
     omega (arith, ap length is.line.whole, length-append is.line.before (codes "cfg" ++ (is.line.between ++ (is.line.word ++ (is.line.after ++ 10 ∷ [])))))
-item_some before text (FormatItem template) rest is =
-    omega (arith, ap length is.whole, length-append is.before (codes "format" ++ (is.between ++ (34 ∷ (is.string ++ (34 ∷ (is.after ++ 10 ∷ [])))))))
+item_some before text (FormatItem template leaves) rest is =
+    omega (arith, ap length is.whole, length-append is.before (codes "format" ++ (is.between ++ (34 ∷ (is.string ++ (34 ∷ (texts is.spelled ++ (is.after ++ 10 ∷ []))))))))
 
 -- the reader finds the items, and only them
 pub items_read : ReadsPieces IsItem no_state (λ state. item_at)
@@ -255,7 +303,7 @@ same_anywhere : (before : List (Spelled Item)) (text : List ℕ) (v : Item) (res
 same_anywhere before text Blank rest other is = is
 same_anywhere before text (OptItem name) rest other is = is
 same_anywhere before text (CfgItem predicate) rest other is = is
-same_anywhere before text (FormatItem template) rest other is = is
+same_anywhere before text (FormatItem template leaves) rest other is = is
 
 -- an item is one whatever follows it
 pub ignores_rest : IgnoresRest IsItem

@@ -1,5 +1,7 @@
 pub mod Strings
-pub mod Doubled
+pub mod Placeholders
+pub mod Leaves
+pub mod Numbers
 pub mod Names
 pub mod Items
 pub mod Calls

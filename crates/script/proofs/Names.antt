@@ -14,7 +14,7 @@ use Rattle.script.specs.ReadItem.{past_line, word_at, spaced_word_at, name_behin
 use Rattle.script.proofs.Strings.{RunAndWord, past_run, run_then, run_then_is}
 
 -- a blank goes on no word
-blank_ends : (c : ℕ) → is_blank c ≡ true → continues_word c ≡ false
+pub blank_ends : (c : ℕ) → is_blank c ≡ true → continues_word c ≡ false
 blank_ends c e = grind (arith, nat_tests)
 
 -- what begins a word goes on one

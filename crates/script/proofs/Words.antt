@@ -18,6 +18,10 @@ pub chars_quote : chars (34 ∷ []) ≡ 34 ∷ []
 unfolding chars
 chars_quote = refl
 
+pub chars_at : chars (64 ∷ []) ≡ 64 ∷ []
+unfolding chars
+chars_at = refl
+
 pub chars_opt : chars (codes "opt") ≡ codes "opt"
 unfolding chars
 chars_opt = refl
@@ -30,14 +34,14 @@ pub chars_format : chars (codes "format") ≡ codes "format"
 unfolding chars
 chars_format = refl
 
-pub ruleset words = (chars_line_feed, chars_quote, chars_opt, chars_cfg, chars_format)
+pub ruleset words = (chars_line_feed, chars_quote, chars_at, chars_opt, chars_cfg, chars_format)
 
 -- the end of a run is behind its begin
 pub run_behind : (p : ℕ → Bool) (here end : Place) → end ≡ past p here → IsBehind here end
 run_behind p here end same = record { text = front p here.left; took = subst (λ e. Took here e (front p here.left)) (sym same) (past_is p here) }
 
 -- the bytes of a run
-run_bytes_are : (p : ℕ → Bool) (here end : Place) (text : List ℕ) → IsUtf8 text → end ≡ past p here → Took here end (chars text) → text ≡ encode_utf8_all (front p here.left)
+pub run_bytes_are : (p : ℕ → Bool) (here end : Place) (text : List ℕ) → IsUtf8 text → end ≡ past p here → Took here end (chars text) → text ≡ encode_utf8_all (front p here.left)
 run_bytes_are p here end text utf8 same took =
     sym (encodes-chars text utf8) ∙ ap (λ l. encode_utf8_all l) (took_same here end (chars text) (front p here.left) took (subst (λ e. Took here e (front p here.left)) (sym same) (past_is p here)))
 

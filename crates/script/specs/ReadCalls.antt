@@ -19,7 +19,7 @@ waiting_behind waiting [] = waiting
 waiting_behind waiting (Blank ∷ more) = waiting_behind waiting more
 waiting_behind waiting (OptItem name ∷ more) = waiting_behind waiting more
 waiting_behind waiting (CfgItem predicate ∷ more) = waiting_behind (waiting ++ predicate ∷ []) more
-waiting_behind waiting (FormatItem template ∷ more) = waiting_behind [] more
+waiting_behind waiting (FormatItem template leaves ∷ more) = waiting_behind [] more
 
 -- behind what was read, items give this
 pub record GoesOn (old : Reading) (values : List Item) (new : Reading) : Type 0 where

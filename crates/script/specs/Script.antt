@@ -1,23 +1,25 @@
 -- A script is a list of items, one after the other, that covers its text; each item is a line.
 use Rattle.std.specs.Prelude.{◌≡◌, ℕ, ◌<◌, ◌≤◌, Bool, true, false, ◌||◌, not, nat_eq, suc, List, [], ◌∷◌, ◌++◌, length, count_by, codes, cond}
 use Rattle.std.specs.Str.{IsUtf8, chars, encode_utf8_all}
-use Rattle.std.specs.Char.{is_ascii_alphabetic, is_ascii_alphanumeric}
+use Rattle.std.specs.Str.Parse.{digits_value}
+use Rattle.std.specs.Char.{is_ascii_alphabetic, is_ascii_alphanumeric, is_ascii_digit}
 use Rattle.text_cut.specs.Runs.{AllPass, starts, is_blank}
-use Rattle.text_cut.specs.Reading.{Spelled, items, IsReading}
+use Rattle.text_cut.specs.Reading.{Spelled, texts, items, AreSpelled, IsReading}
 use Rattle.code_meaning.specs.Write.{Piece}
 use Rattle.ra_cfg.specs.declared.cfg_expr.CfgAtom.TheVariants.{Flag}
 use Rattle.ra_cfg.specs.declared.cfg_expr.CfgExpr.{CfgExpr, Atom}
 use Rattle.ra_cfg.specs.Options.{Options, with_flag, only_true}
 use Rattle.hir_lower.specs.declared.call.GatedCall.{GatedCall}
 use Rattle.hir_lower.specs.declared.call.Call.TheVariants.{Format}
-use Rattle.hir_lower.specs.Pieces.{HasPieces}
+use Rattle.hir_lower.specs.Pieces.{placeholders, HasPieces}
 
--- a line without meaning; an option that is put in; a predicate of the next call; a call of `format_args!` with the text of its string
+-- a line without meaning; an option that is put in; a predicate of the next call; a call of `format_args!` with the text of its string and
+-- its arguments, each a leaf with this number
 pub data Item : Type 0 where
   Blank : Item
   OptItem : List ℕ → Item
   CfgItem : CfgExpr → Item
-  FormatItem : List ℕ → Item
+  FormatItem : List ℕ → List ℕ → Item
 
 -- an ASCII letter or `_`
 abbrev pub begins_word : ℕ → Bool
@@ -37,13 +39,28 @@ pub record IsBlankLine (text : List ℕ) : Type 0 where
   pub whole : text ≡ blanks ++ 10 ∷ []
   pub are_blanks : AllPass is_blank blanks
 
--- the text is the word `format` and a string, with blanks before, between and after them, and a line feed
-pub record IsFormatLine (text : List ℕ) (template : List ℕ) : Type 0 where
+-- the text is an `@` and decimal digits, with blanks before the `@`; the digits write a number of 32 bits, and nothing that goes on a
+-- word follows them
+pub record IsLeaf (front : List (Spelled ℕ)) (text : List ℕ) (number : ℕ) (rest : List ℕ) : Type 0 where
+  pub blanks : List ℕ
+  pub digits : List ℕ
+  pub whole : text ≡ blanks ++ 64 ∷ digits
+  pub are_blanks : AllPass is_blank blanks
+  pub some : 0 < length digits
+  pub are_digits : AllPass is_ascii_digit digits
+  pub value : number ≡ digits_value 10 digits
+  pub small : number ≤ 4294967295
+  pub ends : starts continues_word rest ≡ false
+
+-- the text is the word `format`, a string and leaves, with blanks before, between and after them, and a line feed; the string's text
+-- has as many placeholders as there are leaves
+pub record IsFormatLine (text template leaves : List ℕ) : Type 0 where
   pub before : List ℕ
   pub between : List ℕ
   pub string : List ℕ
+  pub spelled : List (Spelled ℕ)
   pub after : List ℕ
-  pub whole : text ≡ before ++ (codes "format" ++ (between ++ (34 ∷ (string ++ (34 ∷ (after ++ 10 ∷ []))))))
+  pub whole : text ≡ before ++ (codes "format" ++ (between ++ (34 ∷ (string ++ (34 ∷ (texts spelled ++ (after ++ 10 ∷ [])))))))
   pub blank_before : AllPass is_blank before
   pub blank_between : AllPass is_blank between
   pub blank_after : AllPass is_blank after
@@ -51,6 +68,9 @@ pub record IsFormatLine (text : List ℕ) (template : List ℕ) : Type 0 where
   pub value : template ≡ encode_utf8_all string
   pub pieces : List Piece
   pub has_pieces : HasPieces template pieces
+  pub are_leaves : AreSpelled IsLeaf [] spelled (after ++ 10 ∷ [])
+  pub leaves_are : leaves ≡ items spelled
+  pub fits : placeholders pieces ≡ length leaves
 
 -- the text is a keyword and a word, with blanks before, between and after them, and a line feed
 pub record IsWordLine (keyword text name : List ℕ) : Type 0 where
@@ -78,7 +98,7 @@ abbrev pub IsItem : List (Spelled Item) → List ℕ → Item → List ℕ → T
 IsItem front text Blank rest = IsBlankLine text
 IsItem front text (OptItem name) rest = IsWordLine (codes "opt") text name
 IsItem front text (CfgItem predicate) rest = IsCfgLine text predicate
-IsItem front text (FormatItem template) rest = IsFormatLine text template
+IsItem front text (FormatItem template leaves) rest = IsFormatLine text template leaves
 
 -- the bytes are these items with their spellings
 pub record AreItems (bytes : List ℕ) (spelled : List (Spelled Item)) : Type 0 where
@@ -91,8 +111,8 @@ calls_behind waiting [] = []
 calls_behind waiting (Blank ∷ more) = calls_behind waiting more
 calls_behind waiting (OptItem name ∷ more) = calls_behind waiting more
 calls_behind waiting (CfgItem predicate ∷ more) = calls_behind (waiting ++ predicate ∷ []) more
-calls_behind waiting (FormatItem template ∷ more) =
-    record { cfgs = waiting; call = Format (record { template = template }) } ∷ calls_behind [] more
+calls_behind waiting (FormatItem template leaves ∷ more) =
+    record { cfgs = waiting; call = Format (record { template = template; leaves = leaves }) } ∷ calls_behind [] more
 
 abbrev pub calls_of : List Item → List GatedCall
 calls_of values = calls_behind [] values
@@ -103,7 +123,7 @@ options_with options [] = options
 options_with options (Blank ∷ more) = options_with options more
 options_with options (OptItem name ∷ more) = options_with (with_flag options name) more
 options_with options (CfgItem predicate ∷ more) = options_with options more
-options_with options (FormatItem template ∷ more) = options_with options more
+options_with options (FormatItem template leaves ∷ more) = options_with options more
 
 -- the options of items, wherever they stand
 abbrev pub options_of : List Item → Options

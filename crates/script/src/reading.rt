@@ -55,14 +55,19 @@ impl Reading {
     }
 
     // Adds a call of `format_args!`, with the predicates that waited for it.
-    fn push_format(&mut self, alloc: Global, text: &str) -> Result<(), AllocError>
-        ensures { OnOk result (GoesOn self.old (FormatItem text.now ∷ []) self.new) }
+    fn push_format(
+        &mut self,
+        alloc: Global,
+        text: &str,
+        leaves: Items<u32>,
+    ) -> Result<(), AllocError>
+        ensures { OnOk result (GoesOn self.old (FormatItem text.now leaves ∷ []) self.new) }
     {
         let template = Symbol::new(alloc, text)?;
         let cfgs = mem::replace(&mut self.waiting, Items::new(alloc));
         self.calls.push(GatedCall {
             cfgs,
-            call: Call::Format(FormatCall { template }),
+            call: Call::Format(FormatCall { template, leaves }),
         })?;
         Ok(())
     }
@@ -75,7 +80,7 @@ impl Reading {
             ScriptItem::Blank => Ok(()),
             ScriptItem::OptItem(name) => self.set_option(alloc, name),
             ScriptItem::CfgItem(name) => self.push_predicate(alloc, name),
-            ScriptItem::Format(text) => self.push_format(alloc, text),
+            ScriptItem::Format { text, leaves } => self.push_format(alloc, text, leaves),
         }
     }
 }

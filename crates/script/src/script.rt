@@ -69,7 +69,7 @@ fn read_items(alloc: Global, text: &str) -> Result<(Reading, u32), AllocError>
 {
     let mut reading = Reading::new(alloc)?;
     let mut here = begin(text);
-    while let Some((item, behind)) = read_item(here) {
+    while let Some((item, behind)) = read_item(alloc, here)? {
         reading.add(alloc, item)?;
         here = behind;
     }
@@ -162,8 +162,8 @@ mod tests {
     use std::test::Fail;
     use sym_core::Symbol;
 
-    // Adds a line with the names of a call's predicates, and its text.
-    fn push_call(text: &mut String, call: &GatedCall) -> Result<(), AllocError> {
+    // Adds a line with the names of a call's predicates, its text and its leaves.
+    fn push_call(alloc: Global, text: &mut String, call: &GatedCall) -> Result<(), AllocError> {
         for cfg in call.cfgs.as_slice() {
             if let CfgExpr::Atom(CfgAtom::Flag(name)) = cfg {
                 text.push_str(name.as_str())?;
@@ -172,6 +172,10 @@ mod tests {
         }
         let Call::Format(format) = &call.call;
         text.push_str(format.template.as_str())?;
+        for leaf in format.leaves.as_slice() {
+            let word = format!(in alloc; " @{leaf}")?;
+            text.push_str(word.as_str())?;
+        }
         text.push('\n')
     }
 
@@ -183,7 +187,7 @@ mod tests {
         match read_script(alloc, bytes) {
             Ok(script) => {
                 for call in &script.calls {
-                    push_call(&mut text, call)?;
+                    push_call(alloc, &mut text, call)?;
                 }
             }
             Err(ScriptError::Syntax { line }) => text = format!(in alloc; "line {line}")?,
@@ -218,6 +222,32 @@ mod tests {
             ),
             "a last line without its end"
         );
+        Ok(())
+    }
+
+    #[test]
+    fn reads_leaves(rt: HostRuntime) -> Result<(), Fail> {
+        let cases: [(&[u8], &str); 16] = [
+            (b"format \"x{}y{{\" @1", "x{}y{{ @1\n"),
+            (b"format \"{}{}\"@1@20\n", "{}{} @1 @20\n"),
+            (b"format \"{}{}\" @2\t@1 \r", "{}{} @2 @1\n"),
+            (b"format \"{}\" @007", "{} @7\n"),
+            (b"format \"{}\" @4294967295", "{} @4294967295\n"),
+            (b"format \"{}\" @4294967296", "line 1"),
+            (b"format \"{}\" @99999999999999999999999999", "line 1"),
+            (b"format \"{}\" @1a", "line 1"),
+            (b"format \"{}\" @1_", "line 1"),
+            (b"format \"{}\" @+1", "line 1"),
+            (b"format \"{}\" @", "line 1"),
+            (b"format \"{}\" @ 1", "line 1"),
+            (b"\nformat \"{}\"", "line 2"),
+            (b"format \"{}{}\" @1", "line 1"),
+            (b"format \"{}\" @1 @2", "line 1"),
+            (b"format \"}{\" @1", "line 1"),
+        ];
+        for (bytes, want) in cases {
+            assert_eq!(rt; told(rt.alloc(), bytes)?.as_str(), want, "at {bytes:?}");
+        }
         Ok(())
     }
 

@@ -1,10 +1,11 @@
-ghost use Rattle.std.specs.Prelude.{◌≡◌, ◌+◌, ◌≤◌, [], ◌∷◌, None, IfSome, length, codes, chars, option_map};
+ghost use Rattle.std.specs.Prelude.{◌≡◌, ◌+◌, ◌≤◌, [], ◌∷◌, IfSome, length, codes, option_map};
 ghost use Rattle.text_cut.specs.Runs.{starts};
 ghost use Rattle.text_cut.specs.Place.{past};
 ghost use Rattle.text_cut.specs.Rules.{past_word};
 ghost use Rattle.text_cut.specs.Seen.{seen};
+ghost use Rattle.std.specs.Char.{is_ascii_digit};
 ghost use Rattle.script.specs.Script.{begins_word, continues_word, is_plain};
-ghost use Rattle.script.specs.ReadItem.{past_line, word_at, spaced_word_at, name_at, inside_at, string_at, is_doubled};
+ghost use Rattle.script.specs.ReadItem.{past_line, word_at, spaced_word_at, name_at, inside_at, string_at, number_at, leaf_at, is_placeholder, holes_of};
 
 use text_cut::{Cursor, begin, begins_with, blanks, next, run, text_between, word};
 
@@ -138,17 +139,79 @@ pub(crate) fn string<'a>(here: Cursor<'a>) -> Option<(&'a str, Cursor<'a>)>
     inside(behind)
 }
 
-// Whether each brace of a text is doubled.
-pub(crate) fn has_doubled_braces(text: &str) -> bool
-    requires { length text.now ≤ 4_294_967_295 }
-    ensures { result ≡ is_doubled None (chars text.now) }
+// The place behind an `@`.
+#[tactic(auto, using(crate::proofs::Words::words))]
+fn at_sign(here: Cursor<'_>) -> Option<Cursor<'_>>
+    ensures value { option_map seen result ≡ past_word (64 ∷ []) (seen here.entry) }
+    ensures shorter { IfSome result (λ e. length e.rest.now + 1 ≤ length here.entry.rest.now) }
 {
+    word(here, "@")
+}
+
+// Whether a letter, a digit or `_` stands here.
+fn continues_word(here: Cursor<'_>) -> bool
+    ensures { result ≡ starts continues_word (seen here.entry).left }
+{
+    begins_with(here, |c| c.is_ascii_alphanumeric() || c == '_')
+}
+
+// The place behind the digits that stand here.
+fn digits_end(here: Cursor<'_>) -> Cursor<'_>
+    ensures value { seen result ≡ past is_ascii_digit (seen here.entry) }
+    ensures shorter { length result.rest.now ≤ length here.entry.rest.now }
+{
+    run(here, |c| c.is_ascii_digit())
+}
+
+// The number that stands here, and the place behind it.
+fn number(here: Cursor<'_>) -> Option<(u32, Cursor<'_>)>
+    ensures value { option_map (λ r. (r.0, seen r.1)) result ≡ number_at (seen here.entry) }
+    ensures shorter { IfSome result (λ r. length r.1.rest.now ≤ length here.entry.rest.now) }
+{
+    let end = digits_end(here);
+    if continues_word(end) {
+        return None;
+    }
+    match text_between(here, end).parse::<u32>() {
+        Ok(number) => Some((number, end)),
+        Err(_) => None,
+    }
+}
+
+/// The number of the leaf that stands behind blanks, and the place behind it.
+pub(crate) fn leaf(here: Cursor<'_>) -> Option<(u32, Cursor<'_>)>
+    ensures value { option_map (λ r. (r.0, seen r.1)) result ≡ leaf_at (seen here.entry) }
+    ensures shorter { IfSome result (λ r. length r.1.rest.now + 1 ≤ length here.entry.rest.now) }
+{
+    let behind = at_sign(blanks(here))?;
+    number(behind)
+}
+
+// Whether a brace with this character behind it is a placeholder; none where it is no doubled brace either.
+fn is_placeholder(brace: char, c: char) -> Option<bool>
+    ensures { result ≡ is_placeholder brace c }
+{
+    if c == brace {
+        Some(false)
+    } else if brace == '{' && c == '}' {
+        Some(true)
+    } else {
+        None
+    }
+}
+
+/// How many placeholders a text has; none where it has no pieces.
+pub(crate) fn count_placeholders(text: &str) -> Option<usize>
+    requires { length text.now ≤ 4_294_967_295 }
+    ensures { result ≡ holes_of text.now }
+{
+    let mut count = 0;
     let mut open = None;
     let mut here = begin(text);
     while let Some((c, behind)) = next(here) {
         if let Some(brace) = open {
-            if c != brace {
-                return false;
+            if is_placeholder(brace, c)? {
+                count += 1;
             }
             open = None;
         } else if c == '{' || c == '}' {
@@ -156,5 +219,8 @@ pub(crate) fn has_doubled_braces(text: &str) -> bool
         }
         here = behind;
     }
-    open.is_none()
+    match open {
+        None => Some(count),
+        Some(_) => None,
+    }
 }

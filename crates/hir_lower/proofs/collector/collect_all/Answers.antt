@@ -1,9 +1,10 @@
 use Rattle.std.specs.Prelude.{◌≡◌, take}
 use Rattle.std.proofs.Common.{arith, ◌∙◌, ap, sym, Err}
 use Rattle.std.proofs.lemmas.Result.{err_from_is_err_and}
-use Rattle.hir_store.proofs.Grown.{grows_on}
 use Rattle.hir_lower.specs.declared.error.LowerError.TheVariants.{ArenaFull}
-use Rattle.hir_lower.proofs.Outcomes.{outcomes_later, outcomes_on, in_store_later, in_store_on, rising_on, from_lower, most_on, next_call, most_next, longer}
+use Rattle.hir_lower.specs.Lowered.{most_of, most_exprs, lets_of, most_lets}
+use Rattle.hir_lower.proofs.Building.{builds_then, builds_within, outgrows_later}
+use Rattle.hir_lower.proofs.Outcomes.{outcomes_later, outcomes_on, in_store_later, in_store_on, rising_on, from_lower, most_on, lets_on, next_call, most_next, lets_next, longer}
 use Rattle.hir_lower.proofs.collector.collect_all.Goals as goal
 
 pub loop-call-preserved : goal.loop-call-preserved
@@ -11,34 +12,34 @@ loop-call-preserved c =
     let next = next_call c.args.calls.now c.loop-call.call-index c.call-item.result c.loop-call-test.true c.call-item.is in
     record {
       outcomes = rw (next, c.in_ok-outcomes.ensures.value) (outcomes_on c.args.opts.now _ _ _ _ c.in_ok-outcome.outcome
-          (outcomes_later _ _ c.loop-call.invariant.placed c.in_ok-outcome.ensures.older c.args.opts.now _ _ c.loop-call.invariant.outcomes) c.in_ok-outcome.ensures.outcome);
-      rising = rw c.in_ok-outcomes.ensures.value (rising_on c.loop-call.store _ _ c.in_ok-outcome.outcome c.loop-call.invariant.rising c.loop-call.invariant.within (from_lower _ _ c.in_ok-outcome.outcome (longer _ _ c.loop-call.invariant.older) c.in_ok-outcome.ensures.later) c.in_ok-outcome.ensures.later);
+          (outcomes_later _ _ c.loop-call.invariant.placed c.in_ok-outcome.ensures.builds.grows c.args.opts.now _ _ c.loop-call.invariant.outcomes) c.in_ok-outcome.ensures.outcome);
+      rising = rw c.in_ok-outcomes.ensures.value (rising_on c.loop-call.store _ _ c.in_ok-outcome.outcome c.loop-call.invariant.rising c.loop-call.invariant.within (from_lower _ _ c.in_ok-outcome.outcome (longer _ _ c.loop-call.invariant.builds.grows) c.in_ok-outcome.ensures.later) c.in_ok-outcome.ensures.later);
       within = rw c.in_ok-outcomes.ensures.value (in_store_on c.collect_call.new.store _ c.in_ok-outcome.outcome
-          (in_store_later c.loop-call.store c.collect_call.new.store c.loop-call.invariant.placed c.in_ok-outcome.ensures.older _ c.loop-call.invariant.within) c.in_ok-outcome.ensures.within);
-      older = grows_on _ _ _ c.loop-call.invariant.older c.in_ok-outcome.ensures.older;
-      placed = c.in_ok-outcome.ensures.placed c.loop-call.invariant.placed;
-      count = rw (next, most_on c.args.opts.now (take c.loop-call.call-index c.args.calls.now) c.call-item.result) (omega (arith, c.in_ok-outcome.ensures.count, c.loop-call.invariant.count));
-      patterns = c.in_ok-outcome.ensures.patterns ∙ c.loop-call.invariant.patterns;
-      bindings = c.in_ok-outcome.ensures.bindings ∙ c.loop-call.invariant.bindings;
+          (in_store_later c.loop-call.store c.collect_call.new.store c.loop-call.invariant.placed c.in_ok-outcome.ensures.builds.grows _ c.loop-call.invariant.within) c.in_ok-outcome.ensures.within);
+      placed = c.in_ok-outcome.ensures.builds.placed c.loop-call.invariant.placed;
+      builds = rw (next, most_on c.args.opts.now (take c.loop-call.call-index c.args.calls.now) c.call-item.result, lets_on c.args.opts.now (take c.loop-call.call-index c.args.calls.now) c.call-item.result)
+          (builds_then c.loop-call.invariant.builds c.in_ok-outcome.ensures.builds);
     }
 
-pub returns-in_err-outcome-clause-count : goal.returns-in_err-outcome-clause-count
-returns-in_err-outcome-clause-count c =
+pub returns-in_err-outcome-clause-builds : goal.returns-in_err-outcome-clause-builds
+returns-in_err-outcome-clause-builds c =
     let next = next_call c.args.calls.now c.loop-call.call-index c.call-item.result c.loop-call-test.true c.call-item.is in
-    let most = most_next c.args.opts.now c.args.calls.now c.loop-call.call-index c.call-item.result next in
-    omega (arith, c.in_err-outcome.ensures.count, c.loop-call.invariant.count)
+    builds_within (builds_then c.loop-call.invariant.builds c.in_err-outcome.ensures.builds)
+    (most_next c.args.opts.now c.args.calls.now c.loop-call.call-index c.call-item.result next)
+    (lets_next c.args.opts.now c.args.calls.now c.loop-call.call-index c.call-item.result next)
 
 pub returns-in_err-outcome-clause-full : goal.returns-in_err-outcome-clause-full
 returns-in_err-outcome-clause-full c = λ full.
     let next = next_call c.args.calls.now c.loop-call.call-index c.call-item.result c.loop-call-test.true c.call-item.is in
-    let most = most_next c.args.opts.now c.args.calls.now c.loop-call.call-index c.call-item.result next in
     let refused = err_from_is_err_and c.from_residual.result c.from_residual.ensures.1 in
     let same : refused.0 ≡ ArenaFull = let e = sym refused.1 ∙ full in cc in
-    let passed = c.in_err-outcome.ensures.full (ap Err (sym refused.2 ∙ same)) in
-    omega (arith, passed, c.loop-call.invariant.count)
+    outgrows_later _ _ _ _ c.loop-call.invariant.builds (c.in_err-outcome.ensures.full (ap Err (sym refused.2 ∙ same)))
+    (most_next c.args.opts.now c.args.calls.now c.loop-call.call-index c.call-item.result next)
+    (lets_next c.args.opts.now c.args.calls.now c.loop-call.call-index c.call-item.result next)
 
-pub returns-in_err-outcomes-clause-count : goal.returns-in_err-outcomes-clause-count
-returns-in_err-outcomes-clause-count c =
+pub returns-in_err-outcomes-clause-builds : goal.returns-in_err-outcomes-clause-builds
+returns-in_err-outcomes-clause-builds c =
     let next = next_call c.args.calls.now c.loop-call.call-index c.call-item.result c.loop-call-test.true c.call-item.is in
-    let most = most_next c.args.opts.now c.args.calls.now c.loop-call.call-index c.call-item.result next in
-    omega (arith, c.in_ok-outcome.ensures.count, c.loop-call.invariant.count)
+    builds_within (builds_then c.loop-call.invariant.builds c.in_ok-outcome.ensures.builds)
+    (most_next c.args.opts.now c.args.calls.now c.loop-call.call-index c.call-item.result next)
+    (lets_next c.args.opts.now c.args.calls.now c.loop-call.call-index c.call-item.result next)

@@ -1,0 +1,485 @@
+ghost use Rattle.std.specs.Prelude.{◌≡◌, ◌≢◌, ℕ, false, ◌+◌, ◌*◌, ◌<◌, ◌≤◌, [], ◌∷◌, ◌++◌, length, drop, Some, IfOk};
+ghost use Rattle.sym_core.specs.declared.name.Name.{Name};
+ghost use Rattle.code_meaning.specs.Write.{Display};
+ghost use Rattle.hir_store.specs.Tree.{Tree, Steps, Leaf, Path, Bytes, Ref, Tuple, Field, Array, Call, Block, Empty, More, Let};
+ghost use Rattle.hir_store.specs.Unfolding.{place_of, name_in, binding_name};
+ghost use Rattle.hir_store.specs.Store.{Grows, Stands, AllStand, IsPlaced};
+ghost use Rattle.hir_store.specs.Makes.{StepsMake, Makes};
+ghost use Rattle.hir_store.specs.declared.lang_item.LangItem.TheVariants.{FormatArguments};
+ghost use Rattle.hir_store.specs.declared.lang_item.LangFn.TheVariants.{New};
+ghost use Rattle.hir_lower.specs.Code.{from_str_code};
+ghost use Rattle.hir_lower.specs.FormatCode.{put_pair, references, made_tree, elements, statements, new_code, with_arguments, text_code};
+ghost use Rattle.hir_lower.specs.Building.{Builds, Outgrows, IsLet, AreLets, AddsLeaves, arguments_of, named_place, numbered_pairs, template_parts, new_call};
+
+use crate::LowerError;
+use crate::format_args::{call_from_str, list, place};
+use hir_store::{
+    BindingId, Expr, ExprId, ExpressionStore, LangFn, LangItem, Literal, Pat, PatId, Statement,
+};
+use la_arena::ArenaError;
+use sqlite_items::Items;
+use std::alloc::{AllocError, Global};
+use sym_core::{Name, Symbol};
+
+// Places an expression whose parts stand.
+fn build(store: &mut ExpressionStore, expr: Expr) -> Result<ExprId, LowerError>
+    ensures stands { (t : Tree) → Makes store.old expr t → IfOk result (λ id. Stands store.new id t) }
+    ensures later { IfOk result (λ id. length store.old.exprs ≤ place_of id) }
+    ensures builds { (t : Tree) → Makes store.old expr t → Builds store.old store.new 1 0 }
+    ensures count { length store.new.exprs ≤ length store.old.exprs + 1 }
+    ensures full { result ≡ Err LowerError.ArenaFull → 4_294_967_295 < length store.old.exprs + 1 }
+{
+    let id = place(store, expr)?;
+    Ok(id)
+}
+
+// Places `&LEAF`.
+fn place_reference(store: &mut ExpressionStore, leaf: u32) -> Result<ExprId, LowerError>
+    ensures stands { IfOk result (λ id. Stands store.new id (Ref (Leaf leaf))) }
+    ensures builds { Builds store.old store.new 2 0 }
+    ensures full { result ≡ Err LowerError.ArenaFull → 4_294_967_295 < length store.old.exprs + 2 }
+{
+    let argument = build(store, Expr::Leaf(leaf))?;
+    let reference = build(store, Expr::Ref(argument))?;
+    Ok(reference)
+}
+
+// One more part.
+fn with_part(mut so_far: Vec<ExprId>, part: ExprId) -> Result<Vec<ExprId>, LowerError>
+    ensures value { IfOk result (λ more. more.items ≡ so_far.items ++ part ∷ []) }
+    ensures memory { result ≢ Err LowerError.ArenaFull }
+{
+    match so_far.push(part) {
+        Ok(()) => Ok(so_far),
+        Err(_) => Err(LowerError::Memory(AllocError)),
+    }
+}
+
+// Places `&LEAF` for each leaf, in order.
+fn place_references(
+    alloc: Global,
+    store: &mut ExpressionStore,
+    leaves: &[u32],
+) -> Result<Items<ExprId>, LowerError>
+    ensures stand { IfOk result (λ ids. AllStand store.new ids (references (arguments_of leaves.now))) }
+    ensures builds { Builds store.old store.new (2 * length leaves.now) 0 }
+    ensures full { result ≡ Err LowerError.ArenaFull → 4_294_967_295 < length store.old.exprs + 2 * length leaves.now }
+{
+    let mut parts = Vec::new(alloc);
+    for leaf in leaves {
+        let reference = place_reference(store, *leaf)?;
+        parts = with_part(parts, reference)?;
+    }
+    Ok(Items::from_vec(parts))
+}
+
+// Places `#NUMBER.PLACE`.
+fn place_field(store: &mut ExpressionStore, number: u32, place: usize) -> Result<ExprId, LowerError>
+    ensures stands { IfOk result (λ id. Stands store.new id (Field (Path (Name.Fresh number)) (Name.TupleField place))) }
+    ensures builds { Builds store.old store.new 2 0 }
+    ensures full { result ≡ Err LowerError.ArenaFull → 4_294_967_295 < length store.old.exprs + 2 }
+{
+    let tuple = build(store, Expr::Path(Name::Fresh(number)))?;
+    let field = build(
+        store,
+        Expr::Field {
+            expr: tuple,
+            name: Name::TupleField(place),
+        },
+    )?;
+    Ok(field)
+}
+
+// Places `Argument::new_display(#NUMBER.PLACE)`.
+fn place_made(
+    alloc: Global,
+    store: &mut ExpressionStore,
+    number: u32,
+    place: usize,
+) -> Result<ExprId, LowerError>
+    ensures stands { IfOk result (λ id. Stands store.new id (made_tree number (put_pair place Display))) }
+    ensures builds { Builds store.old store.new 4 0 }
+    ensures full { result ≡ Err LowerError.ArenaFull → 4_294_967_295 < length store.old.exprs + 4 }
+{
+    let callee = build(
+        store,
+        Expr::LangPath(LangItem::FormatArgument, LangFn::NewDisplay),
+    )?;
+    let field = place_field(store, number, place)?;
+    let args = list(alloc, &[field])?;
+    let call = build(store, Expr::Call { callee, args })?;
+    Ok(call)
+}
+
+// The place that an element of the array names: its own number, or one that no argument has.
+fn named_place(count: usize, element: usize) -> usize
+    ensures { result ≡ named_place count element }
+{
+    if element < count { element } else { usize::MAX }
+}
+
+// Places one element for each pair, in order.
+fn place_elements(
+    alloc: Global,
+    store: &mut ExpressionStore,
+    number: u32,
+    count: usize,
+    pairs: usize,
+) -> Result<Items<ExprId>, LowerError>
+    ensures stand { IfOk result (λ ids. AllStand store.new ids (elements number (numbered_pairs count pairs))) }
+    ensures builds { Builds store.old store.new (4 * pairs) 0 }
+    ensures full { result ≡ Err LowerError.ArenaFull → 4_294_967_295 < length store.old.exprs + 4 * pairs }
+{
+    let mut parts = Vec::new(alloc);
+    for element in 0..pairs {
+        let made = place_made(alloc, store, number, named_place(count, element))?;
+        parts = with_part(parts, made)?;
+    }
+    Ok(Items::from_vec(parts))
+}
+
+// Places a binding of a fresh name.
+fn bind(store: &mut ExpressionStore, number: u32) -> Result<BindingId, LowerError>
+    ensures named { IfOk result (λ id. binding_name store.new.bindings id ≡ Some (Name.Fresh number)) }
+    ensures grows { Grows store.old store.new }
+    ensures exprs { store.new.exprs ≡ store.old.exprs }
+    ensures patterns { store.new.pats ≡ store.old.pats }
+    ensures kept { IsPlaced store.old → IsPlaced store.new }
+    ensures count { length store.new.bindings ≤ length store.old.bindings + 1 }
+    ensures full { result ≡ Err LowerError.ArenaFull → 4_294_967_295 < length store.old.bindings + 1 }
+{
+    match store.alloc_binding(Name::Fresh(number)) {
+        Ok(id) => Ok(id),
+        Err(ArenaError::Full) => Err(LowerError::ArenaFull),
+        Err(ArenaError::Memory(refused)) => Err(LowerError::Memory(refused)),
+    }
+}
+
+// Places a pattern that binds.
+fn place_pat(store: &mut ExpressionStore, binding: BindingId) -> Result<PatId, LowerError>
+    ensures named { IfOk result (λ id. name_in store.new id ≡ binding_name store.old.bindings binding) }
+    ensures grows { Grows store.old store.new }
+    ensures exprs { store.new.exprs ≡ store.old.exprs }
+    ensures bindings { store.new.bindings ≡ store.old.bindings }
+    ensures kept { IsPlaced store.old → IsPlaced store.new }
+    ensures count { length store.new.pats ≤ length store.old.pats + 1 }
+    ensures full { result ≡ Err LowerError.ArenaFull → 4_294_967_295 < length store.old.pats + 1 }
+{
+    match store.alloc_pat(Pat::Bind(binding)) {
+        Ok(id) => Ok(id),
+        Err(ArenaError::Full) => Err(LowerError::ArenaFull),
+        Err(ArenaError::Memory(refused)) => Err(LowerError::Memory(refused)),
+    }
+}
+
+// A `let` that binds a fresh name.
+fn place_let(
+    store: &mut ExpressionStore,
+    number: u32,
+    initializer: ExprId,
+) -> Result<Statement, LowerError>
+    ensures is { (t : Tree) → Stands store.old initializer t → IfOk result (λ statement. IsLet store.new statement (Name.Fresh number) t) }
+    ensures builds { Builds store.old store.new 0 1 }
+    ensures full { result ≡ Err LowerError.ArenaFull → Outgrows store.old 0 1 }
+{
+    let binding = bind(store, number)?;
+    let pat = place_pat(store, binding)?;
+    Ok(Statement::Let { pat, initializer })
+}
+
+// `let #NUMBER = (&LEAF, ..);`
+fn place_tuple(
+    alloc: Global,
+    store: &mut ExpressionStore,
+    number: u32,
+    leaves: &[u32],
+) -> Result<Statement, LowerError>
+    ensures is { IfOk result (λ statement. IsLet store.new statement (Name.Fresh number) (Tuple (references (arguments_of leaves.now)))) }
+    ensures builds { Builds store.old store.new (2 * length leaves.now + 1) 1 }
+    ensures full { result ≡ Err LowerError.ArenaFull → Outgrows store.old (2 * length leaves.now + 1) 1 }
+{
+    let parts = place_references(alloc, store, leaves)?;
+    let tuple = build(store, Expr::Tuple(parts))?;
+    let statement = place_let(store, number, tuple)?;
+    Ok(statement)
+}
+
+// `let #NUMBER = [Argument::new_display(#NUMBER.PLACE), ..];`
+fn place_array(
+    alloc: Global,
+    store: &mut ExpressionStore,
+    number: u32,
+    count: usize,
+    pairs: usize,
+) -> Result<Statement, LowerError>
+    ensures is { IfOk result (λ statement. IsLet store.new statement (Name.Fresh number) (Array (elements number (numbered_pairs count pairs)))) }
+    ensures builds { Builds store.old store.new (4 * pairs + 1) 1 }
+    ensures full { result ≡ Err LowerError.ArenaFull → Outgrows store.old (4 * pairs + 1) 1 }
+{
+    let parts = place_elements(alloc, store, number, count, pairs)?;
+    let array = build(store, Expr::Array(parts))?;
+    let statement = place_let(store, number, array)?;
+    Ok(statement)
+}
+
+// Two statements, in a list of their own.
+fn two(alloc: Global, first: Statement, second: Statement) -> Result<Vec<Statement>, LowerError>
+    ensures value { IfOk result (λ statements. statements.items ≡ first ∷ second ∷ []) }
+    ensures memory { result ≢ Err LowerError.ArenaFull }
+{
+    match Vec::from_slice(alloc, &[first, second]) {
+        Ok(statements) => Ok(statements),
+        Err(refused) => Err(LowerError::Memory(refused)),
+    }
+}
+
+// The two `let`s of a call with arguments.
+fn place_lets(
+    alloc: Global,
+    store: &mut ExpressionStore,
+    number: u32,
+    leaves: &[u32],
+    pairs: usize,
+) -> Result<Vec<Statement>, LowerError>
+    ensures are { IfOk result (λ lets. AreLets store.new lets.items (Name.Fresh number) (Tuple (references (arguments_of leaves.now))) (Array (elements number (numbered_pairs (length leaves.now) pairs)))) }
+    ensures builds { Builds store.old store.new (2 * length leaves.now + 4 * pairs + 2) 2 }
+    ensures full { result ≡ Err LowerError.ArenaFull → Outgrows store.old (2 * length leaves.now + 4 * pairs + 2) 2 }
+{
+    let tuple = place_tuple(alloc, store, number, leaves)?;
+    let array = place_array(alloc, store, number, leaves.len(), pairs)?;
+    let lets = two(alloc, tuple, array)?;
+    Ok(lets)
+}
+
+// One more expression as a statement.
+fn with_statement(mut so_far: Vec<Statement>, expr: ExprId) -> Result<Vec<Statement>, LowerError>
+    ensures value { IfOk result (λ more. more.items ≡ so_far.items ++ Statement.Expr expr ∷ []) }
+    ensures memory { result ≢ Err LowerError.ArenaFull }
+{
+    match so_far.push(Statement::Expr(expr)) {
+        Ok(()) => Ok(so_far),
+        Err(_) => Err(LowerError::Memory(AllocError)),
+    }
+}
+
+// Places each leaf, in order, as a statement behind those so far.
+fn place_leaves(
+    store: &mut ExpressionStore,
+    so_far: Vec<Statement>,
+    leaves: &[u32],
+) -> Result<Vec<Statement>, LowerError>
+    ensures adds { IfOk result (λ statements. AddsLeaves store.new so_far.items statements.items leaves.now) }
+    ensures builds { Builds store.old store.new (length leaves.now) 0 }
+    ensures full { result ≡ Err LowerError.ArenaFull → 4_294_967_295 < length store.old.exprs + length leaves.now }
+{
+    let mut statements = so_far;
+    for leaf in leaves {
+        let argument = build(store, Expr::Leaf(*leaf))?;
+        statements = with_statement(statements, argument)?;
+    }
+    Ok(statements)
+}
+
+// The arguments of `Arguments::new`: the template's bytes and a reference to the list.
+fn place_template(
+    alloc: Global,
+    store: &mut ExpressionStore,
+    bytes: Items<u8>,
+    array: ExprId,
+) -> Result<Items<ExprId>, LowerError>
+    ensures stand { (t : Tree) → Stands store.old array t → IfOk result (λ ids. AllStand store.new ids (template_parts bytes t)) }
+    ensures builds { (t : Tree) → Stands store.old array t → Builds store.old store.new 2 0 }
+    ensures count { length store.new.exprs ≤ length store.old.exprs + 2 }
+    ensures full { result ≡ Err LowerError.ArenaFull → 4_294_967_295 < length store.old.exprs + 2 }
+{
+    let template = build(store, Expr::Literal(Literal::ByteString(bytes)))?;
+    let reference = build(store, Expr::Ref(array))?;
+    let args = list(alloc, &[template, reference])?;
+    Ok(args)
+}
+
+// Places `Arguments::new(BYTES, &LIST)`.
+fn place_new_call(
+    alloc: Global,
+    store: &mut ExpressionStore,
+    bytes: Items<u8>,
+    array: ExprId,
+) -> Result<ExprId, LowerError>
+    ensures stands { (t : Tree) → Stands store.old array t → IfOk result (λ id. Stands store.new id (new_call bytes t)) }
+    ensures builds { (t : Tree) → Stands store.old array t → Builds store.old store.new 4 0 }
+    ensures count { length store.new.exprs ≤ length store.old.exprs + 4 }
+    ensures full { result ≡ Err LowerError.ArenaFull → 4_294_967_295 < length store.old.exprs + 4 }
+{
+    let args = place_template(alloc, store, bytes, array)?;
+    let callee = build(
+        store,
+        Expr::LangPath(LangItem::FormatArguments, LangFn::New),
+    )?;
+    let call = build(store, Expr::Call { callee, args })?;
+    Ok(call)
+}
+
+// Places a block of statements and a tail.
+fn place_block(
+    store: &mut ExpressionStore,
+    statements: Vec<Statement>,
+    tail: ExprId,
+    is_unsafe: bool,
+) -> Result<ExprId, LowerError>
+    ensures stands { (steps : Steps) → StepsMake store.old statements.items (Some tail) steps → IfOk result (λ id. Stands store.new id (Block is_unsafe steps)) }
+    ensures later { IfOk result (λ id. length store.old.exprs ≤ place_of id) }
+    ensures builds { (steps : Steps) → StepsMake store.old statements.items (Some tail) steps → Builds store.old store.new 1 0 }
+    ensures count { length store.new.exprs ≤ length store.old.exprs + 1 }
+    ensures full { result ≡ Err LowerError.ArenaFull → 4_294_967_295 < length store.old.exprs + 1 }
+{
+    let statements = Items::from_vec(statements);
+    let block = build(
+        store,
+        Expr::Block {
+            statements,
+            tail: Some(tail),
+            is_unsafe,
+        },
+    )?;
+    Ok(block)
+}
+
+// Places `unsafe { Arguments::new(BYTES, &LIST) }`.
+fn place_new(
+    alloc: Global,
+    store: &mut ExpressionStore,
+    bytes: Items<u8>,
+    array: ExprId,
+) -> Result<ExprId, LowerError>
+    ensures stands { (t : Tree) → Stands store.old array t → IfOk result (λ id. Stands store.new id (new_code bytes t)) }
+    ensures builds { (t : Tree) → Stands store.old array t → Builds store.old store.new 5 0 }
+    ensures later { (t : Tree) → Stands store.old array t → IfOk result (λ id. length store.old.exprs ≤ place_of id) }
+    ensures count { length store.new.exprs ≤ length store.old.exprs + 5 }
+    ensures full { result ≡ Err LowerError.ArenaFull → 4_294_967_295 < length store.old.exprs + 5 }
+{
+    let call = place_new_call(alloc, store, bytes, array)?;
+    let block = place_block(store, Vec::new(alloc), call, true)?;
+    Ok(block)
+}
+
+// Places `unsafe { Arguments::new(BYTES, &#NUMBER) }`.
+fn place_named_new(
+    alloc: Global,
+    store: &mut ExpressionStore,
+    number: u32,
+    bytes: Items<u8>,
+) -> Result<ExprId, LowerError>
+    ensures stands { IfOk result (λ id. Stands store.new id (new_code bytes (Path (Name.Fresh number)))) }
+    ensures builds { Builds store.old store.new 6 0 }
+    ensures full { result ≡ Err LowerError.ArenaFull → 4_294_967_295 < length store.old.exprs + 6 }
+{
+    let array = build(store, Expr::Path(Name::Fresh(number)))?;
+    let code = place_new(alloc, store, bytes, array)?;
+    Ok(code)
+}
+
+// Places the block of two `let`s, the orphans behind them, and the template over the second `let`.
+fn place_behind_lets(
+    alloc: Global,
+    store: &mut ExpressionStore,
+    number: u32,
+    lets: Vec<Statement>,
+    orphans: &[u32],
+    bytes: Items<u8>,
+) -> Result<ExprId, LowerError>
+    ensures stands { (t u : Tree) → AreLets store.old lets.items (Name.Fresh number) t u →
+        IfOk result (λ id. Stands store.new id (Block false (Let (Name.Fresh number) t (Let (Name.Fresh number) u (statements (arguments_of orphans.now) (new_code bytes (Path (Name.Fresh number)))))))) }
+    ensures builds { (t u : Tree) → AreLets store.old lets.items (Name.Fresh number) t u → Builds store.old store.new (length orphans.now + 7) 0 }
+    ensures later { IfOk result (λ id. length store.old.exprs ≤ place_of id) }
+    ensures full { result ≡ Err LowerError.ArenaFull → 4_294_967_295 < length store.old.exprs + length orphans.now + 7 }
+{
+    let statements = place_leaves(store, lets, orphans)?;
+    let code = place_named_new(alloc, store, number, bytes)?;
+    let block = place_block(store, statements, code, false)?;
+    Ok(block)
+}
+
+// Places `unsafe { Arguments::new(BYTES, &[]) }`.
+fn place_bare_new(
+    alloc: Global,
+    store: &mut ExpressionStore,
+    bytes: Items<u8>,
+) -> Result<ExprId, LowerError>
+    ensures stands { IfOk result (λ id. Stands store.new id (new_code bytes (Array Empty))) }
+    ensures builds { Builds store.old store.new 6 0 }
+    ensures later { IfOk result (λ id. length store.old.exprs ≤ place_of id) }
+    ensures full { result ≡ Err LowerError.ArenaFull → 4_294_967_295 < length store.old.exprs + 6 }
+{
+    let array = build(store, Expr::Array(Items::new(alloc)))?;
+    let code = place_new(alloc, store, bytes, array)?;
+    Ok(code)
+}
+
+// The leaves behind the first ones, this many.
+fn behind(leaves: &[u32], pairs: usize) -> &[u32]
+    ensures { result.now ≡ drop pairs leaves.now }
+{
+    leaves.get(pairs..).unwrap_or(&[])
+}
+
+/// Places the code of a call with arguments: a leaf for each argument, and one element of the array
+/// for each pair. The leaves behind the first pairs are statements of their own too.
+pub(crate) fn place_with_arguments(
+    alloc: Global,
+    store: &mut ExpressionStore,
+    number: u32,
+    leaves: &[u32],
+    pairs: usize,
+    bytes: Items<u8>,
+) -> Result<ExprId, LowerError>
+    ensures stands { IfOk result (λ id. Stands store.new id (with_arguments number (arguments_of leaves.now) (numbered_pairs (length leaves.now) pairs) bytes (arguments_of (drop pairs leaves.now)))) }
+    ensures later { IfOk result (λ id. length store.old.exprs ≤ place_of id) }
+    ensures builds { Builds store.old store.new (2 * length leaves.now + 4 * pairs + length (drop pairs leaves.now) + 9) 2 }
+    ensures full { result ≡ Err LowerError.ArenaFull → Outgrows store.old (2 * length leaves.now + 4 * pairs + length (drop pairs leaves.now) + 9) 2 }
+{
+    if leaves.is_empty() {
+        let code = place_bare_new(alloc, store, bytes)?;
+        return Ok(code);
+    }
+    let lets = place_lets(alloc, store, number, leaves, pairs)?;
+    let code = place_behind_lets(alloc, store, number, lets, behind(leaves, pairs), bytes)?;
+    Ok(code)
+}
+
+// Places the block of leaves as statements and `Arguments::from_str(TEXT)` behind them.
+fn place_text_block(
+    alloc: Global,
+    store: &mut ExpressionStore,
+    leaves: &[u32],
+    text: Symbol,
+) -> Result<ExprId, LowerError>
+    ensures stands { IfOk result (λ id. Stands store.new id (Block false (statements (arguments_of leaves.now) (from_str_code text)))) }
+    ensures later { IfOk result (λ id. length store.old.exprs ≤ place_of id) }
+    ensures builds { Builds store.old store.new (length leaves.now + 4) 0 }
+    ensures full { result ≡ Err LowerError.ArenaFull → 4_294_967_295 < length store.old.exprs + length leaves.now + 4 }
+{
+    let statements = place_leaves(store, Vec::new(alloc), leaves)?;
+    let code = call_from_str(alloc, store, text)?;
+    let block = place_block(store, statements, code, false)?;
+    Ok(block)
+}
+
+/// Places the code of a call without a placeholder: each argument, a leaf, as a statement, and the text behind them.
+pub(crate) fn place_text(
+    alloc: Global,
+    store: &mut ExpressionStore,
+    leaves: &[u32],
+    text: Symbol,
+) -> Result<ExprId, LowerError>
+    ensures stands { IfOk result (λ id. Stands store.new id (text_code (arguments_of leaves.now) text)) }
+    ensures later { IfOk result (λ id. length store.old.exprs ≤ place_of id) }
+    ensures builds { Builds store.old store.new (length leaves.now + 4) 0 }
+    ensures full { result ≡ Err LowerError.ArenaFull → 4_294_967_295 < length store.old.exprs + length leaves.now + 4 }
+{
+    if leaves.is_empty() {
+        let code = call_from_str(alloc, store, text)?;
+        return Ok(code);
+    }
+    let code = place_text_block(alloc, store, leaves, text)?;
+    Ok(code)
+}
