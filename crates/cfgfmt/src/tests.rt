@@ -26,7 +26,7 @@ fn run_over(
 
 #[test]
 fn answers_scripts(rt: HostRuntime) -> Result<(), Fail> {
-    let cases: [(&str, &[u8], &str, usize); 13] = [
+    let cases: [(&str, &[u8], &str, usize); 15] = [
         (
             "",
             b"format \"hi\"",
@@ -76,6 +76,19 @@ fn answers_scripts(rt: HostRuntime) -> Result<(), Fail> {
             "0 code { let #0 = (&@7,); let #0 = [Argument::new_display(#0.0)]; unsafe { Arguments::new(b\"C000\", &#0) } }\n1 code { let #1 = (&@7,); let #1 = [Argument::new_display(#1.0)]; unsafe { Arguments::new(b\"C000\", &#1) } }\n",
             2,
         ),
+        (
+            "",
+            b"# a note\nformat r#\"a\"b{}\"# @3\nformat \"a\\x41\"\n",
+            "0 code { let #0 = (&@3,); let #0 = [Argument::new_display(#0.0)]; unsafe { Arguments::new(b\"03612262C000\", &#0) } }\n1 code Arguments::from_str(s\"6141\")\n",
+            2,
+        ),
+        // Words of any script that Unicode has, and a string over two lines.
+        (
+            "",
+            "opt π\ncfg π\nformat \"a\nb\"\ncfg é\nformat \"\"".as_bytes(),
+            "0 code Arguments::from_str(s\"610A62\")\n1 off\n",
+            2,
+        ),
         // An option counts wherever it stands, and a predicate behind the last call has no effect.
         (
             "",
@@ -117,7 +130,7 @@ fn answers_scripts(rt: HostRuntime) -> Result<(), Fail> {
 #[test]
 fn tells_each_refusal(rt: HostRuntime) -> Result<(), Fail> {
     let hi = b"format \"hi\"".as_slice();
-    let cases: [(&str, &[u8], &[u64], &[u64], u8, &str, usize); 7] = [
+    let cases: [(&str, &[u8], &[u64], &[u64], u8, &str, usize); 9] = [
         ("foo", hi, &[], &[], 2, "error usage\n", 0),
         ("run run", hi, &[], &[], 2, "error usage\n", 0),
         ("", b"\n\n\xff", &[], &[], 3, "error syntax at line 3\n", 0),
@@ -128,6 +141,25 @@ fn tells_each_refusal(rt: HostRuntime) -> Result<(), Fail> {
             &[],
             3,
             "error syntax at line 2\n",
+            0,
+        ),
+        // The line feed in a string counts.
+        (
+            "",
+            b"format \"a\nb\"\nformat {",
+            &[],
+            &[],
+            3,
+            "error syntax at line 3\n",
+            0,
+        ),
+        (
+            "",
+            b"format \"\\q\"",
+            &[],
+            &[],
+            3,
+            "error syntax at line 1\n",
             0,
         ),
         // The source fails where it would tell its end.

@@ -1,9 +1,9 @@
 -- What is built step by step: sums of what the steps place, and what stands goes on to stand.
-use Rattle.std.specs.Prelude.{◌≡◌, ℕ, zero, suc, ◌+◌, ◌<◌, ◌≤◌, List, [], ◌∷◌, ◌++◌, length, map, take, Some, Result, Ok, Err, IsErrAnd, IsTrue}
+use Rattle.std.specs.Prelude.{◌≡◌, ℕ, zero, suc, ◌+◌, ◌<◌, ◌≤◌, List, [], ◌∷◌, ◌++◌, length, map, take, Option, Some, Result, Ok, Err, IsErrAnd, IsTrue}
 use Rattle.std.specs.List.{range_with_len}
 use Rattle.std.proofs.Common.{sym, ◌∙◌, ap, subst, arith, append_assoc, append-nil, length-append, get_or, inl, inr}
 use Rattle.std.proofs.lemmas.Bool.{lt-ltb}
-use Rattle.std.proofs.lemmas.List.{take_more}
+use Rattle.std.proofs.lemmas.List.{take_more, map-append}
 use Rattle.std.proofs.lemmas.List.FromFn.{map-range_with_len_more}
 use Rattle.sym_core.specs.declared.name.Name.{Name}
 use Rattle.hir_store.specs.declared.ids.ExprId.{ExprId}
@@ -11,7 +11,7 @@ use Rattle.hir_store.specs.declared.expr.Expr.{Expr}
 use Rattle.hir_store.specs.declared.expr.Statement.{Statement}
 use Rattle.hir_store.specs.declared.expr.Statement.TheVariants as statement
 use Rattle.hir_store.specs.declared.store.ExpressionStore.{ExpressionStore}
-use Rattle.hir_store.specs.Tree.{Tree, Steps, Leaf, Ref, Let, is_whole}
+use Rattle.hir_store.specs.Tree.{Tree, Steps, Ref, Let, is_whole}
 use Rattle.hir_store.specs.Unfolding.{tree_over}
 use Rattle.hir_store.specs.Store.{Grows, Stands, AllStand, IsPlaced}
 use Rattle.hir_store.specs.Makes.{StepsMake, Makes}
@@ -19,9 +19,10 @@ use Rattle.hir_store.proofs.Grown.{grows_self, grows_on, stands_later, names_kep
 use Rattle.code_meaning.specs.Write.{Display}
 use Rattle.hir_lower.specs.declared.error.LowerError.{LowerError}
 use Rattle.hir_lower.specs.declared.error.LowerError.TheVariants.{ArenaFull}
-use Rattle.hir_lower.specs.FormatCode.{AreWithin, Pair, put_pair, references, made_tree, elements, statements}
+use Rattle.syn_trees.specs.declared.format_call.FormatArgSyntax.{FormatArgSyntax}
+use Rattle.hir_lower.specs.FormatCode.{Argument, argument_tree, AreWithin, Pair, put_pair, references, made_tree, elements, statements}
 use Rattle.hir_lower.proofs.Codes.{whole_of_made}
-use Rattle.hir_lower.specs.Building.{Builds, Outgrows, IsLet, AreLets, AreLeaves, AddsLeaves, arguments_of, named_place, numbered_pairs}
+use Rattle.hir_lower.specs.Building.{Builds, Outgrows, IsLet, AreLets, AreArguments, AddsArguments, argument_of, arguments_of, named_place, numbered_pairs}
 
 -- Builds
 
@@ -97,69 +98,69 @@ module _ (old new : ExpressionStore) (grows : Grows old new) where
     other = let_later was.second name u was.other;
   }
 
-  pub leaves_later : (ss : List Statement) (leaves : List ℕ) → AreLeaves old ss leaves → AreLeaves new ss leaves
-  leaves_later [] [] are = tt
-  leaves_later (statement.Expr id ∷ ss) (leaf ∷ leaves) are = (stands_later old new id (Leaf leaf) grows are.0, leaves_later ss leaves are.1)
-  leaves_later [] (leaf ∷ leaves) are = absurd are
-  leaves_later (statement.Expr i ∷ ss) [] are = absurd are
-  leaves_later (statement.Let pat id ∷ ss) leaves are = absurd are
+  arguments_later : (ss : List Statement) (args : List (Option Argument)) → AreArguments old ss args → AreArguments new ss args
+  arguments_later [] [] are = tt
+  arguments_later (statement.Expr id ∷ ss) (arg ∷ args) are = (stands_later old new id (argument_tree arg) grows are.0, arguments_later ss args are.1)
+  arguments_later [] (arg ∷ args) are = absurd are
+  arguments_later (statement.Expr i ∷ ss) [] are = absurd are
+  arguments_later (statement.Let pat id ∷ ss) args are = absurd are
 
-  pub adds_later : (so_far ss : List Statement) (leaves : List ℕ) → AddsLeaves old so_far ss leaves → AddsLeaves new so_far ss leaves
-  adds_later so_far ss leaves was = record { added = was.added; are = was.are; stand = leaves_later was.added leaves was.stand }
+  pub adds_later : (so_far ss : List Statement) (args : List (Option Argument)) → AddsArguments old so_far ss args → AddsArguments new so_far ss args
+  adds_later so_far ss args was = record { added = was.added; are = was.are; stand = arguments_later was.added args was.stand }
 
 module _ (store : ExpressionStore) where
-  -- statements that are leaves, and behind them a tail
-  pub steps_of_leaves : (ss : List Statement) (leaves : List ℕ) (tail : ExprId) (t : Tree) → AreLeaves store ss leaves → Stands store tail t → StepsMake store ss (Some tail) (statements (arguments_of leaves) t)
-  steps_of_leaves [] [] tail t are stands = stands
-  steps_of_leaves (statement.Expr id ∷ ss) (leaf ∷ leaves) tail t are stands = (are.0, steps_of_leaves ss leaves tail t are.1 stands)
-  steps_of_leaves [] (leaf ∷ leaves) tail t are stands = absurd are
-  steps_of_leaves (statement.Expr i ∷ ss) [] tail t are stands = absurd are
-  steps_of_leaves (statement.Let pat id ∷ ss) leaves tail t are stands = absurd are
+  -- statements that are arguments, and behind them a tail
+  pub steps_of_arguments : (ss : List Statement) (args : List (Option Argument)) (tail : ExprId) (t : Tree) → AreArguments store ss args → Stands store tail t → StepsMake store ss (Some tail) (statements args t)
+  steps_of_arguments [] [] tail t are stands = stands
+  steps_of_arguments (statement.Expr id ∷ ss) (arg ∷ args) tail t are stands = (are.0, steps_of_arguments ss args tail t are.1 stands)
+  steps_of_arguments [] (arg ∷ args) tail t are stands = absurd are
+  steps_of_arguments (statement.Expr i ∷ ss) [] tail t are stands = absurd are
+  steps_of_arguments (statement.Let pat id ∷ ss) args tail t are stands = absurd are
 
-  -- leaves behind no statement, and behind them a tail
-  pub steps_of_added : (so_far ss : List Statement) (leaves : List ℕ) (tail : ExprId) (t : Tree) → so_far ≡ [] → AddsLeaves store so_far ss leaves → Stands store tail t → StepsMake store ss (Some tail) (statements (arguments_of leaves) t)
-  steps_of_added so_far ss leaves tail t none adds stands =
+  -- arguments behind no statement, and behind them a tail
+  pub steps_of_added : (so_far ss : List Statement) (args : List (Option Argument)) (tail : ExprId) (t : Tree) → so_far ≡ [] → AddsArguments store so_far ss args → Stands store tail t → StepsMake store ss (Some tail) (statements args t)
+  steps_of_added so_far ss args tail t none adds stands =
       let there : ss ≡ adds.added = adds.are ∙ ap (λ l. l ++ adds.added) none in
-      subst (λ l. StepsMake store l (Some tail) (statements (arguments_of leaves) t)) (sym there) (steps_of_leaves adds.added leaves tail t adds.stand stands)
+      subst (λ l. StepsMake store l (Some tail) (statements args t)) (sym there) (steps_of_arguments adds.added args tail t adds.stand stands)
 
   -- a `let` in front of what makes the steps behind it
   steps_of_let : (s : Statement) (ss : List Statement) (tail : ExprId) (name : Name) (t : Tree) (steps : Steps) → IsLet store s name t → StepsMake store ss (Some tail) steps → StepsMake store (s ∷ ss) (Some tail) (Let name t steps)
   steps_of_let s ss tail name t steps is make =
       subst (λ x. StepsMake store (x ∷ ss) (Some tail) (Let name t steps)) (sym is.is) (is.binds, is.stands, make)
 
-  -- two `let`s, leaves and a tail
-  pub steps_of_lets : (lets ss : List Statement) (name : Name) (t u : Tree) (leaves : List ℕ) (tail : ExprId) (v : Tree) → AreLets store lets name t u → AddsLeaves store lets ss leaves → Stands store tail v →
-      StepsMake store ss (Some tail) (Let name t (Let name u (statements (arguments_of leaves) v)))
-  steps_of_lets lets ss name t u leaves tail v are adds stands =
+  -- two `let`s, arguments and a tail
+  pub steps_of_lets : (lets ss : List Statement) (name : Name) (t u : Tree) (args : List (Option Argument)) (tail : ExprId) (v : Tree) → AreLets store lets name t u → AddsArguments store lets ss args → Stands store tail v →
+      StepsMake store ss (Some tail) (Let name t (Let name u (statements args v)))
+  steps_of_lets lets ss name t u args tail v are adds stands =
       let there : ss ≡ are.first ∷ are.second ∷ adds.added = adds.are ∙ ap (λ l. l ++ adds.added) are.are in
-      subst (λ l. StepsMake store l (Some tail) (Let name t (Let name u (statements (arguments_of leaves) v)))) (sym there)
+      subst (λ l. StepsMake store l (Some tail) (Let name t (Let name u (statements args v)))) (sym there)
       (steps_of_let are.first (are.second ∷ adds.added) tail name t _ are.one
-      (steps_of_let are.second adds.added tail name u _ are.other (steps_of_leaves adds.added leaves tail v adds.stand stands)))
+      (steps_of_let are.second adds.added tail name u _ are.other (steps_of_arguments adds.added args tail v adds.stand stands)))
 
-  -- one more leaf as a statement
-  pub adds_none : (so_far : List Statement) → AddsLeaves store so_far so_far []
+  -- one more argument as a statement
+  pub adds_none : (so_far : List Statement) → AddsArguments store so_far so_far []
   adds_none so_far = record { added = []; are = sym (append-nil so_far); stand = tt }
 
-  leaves_on : (ss : List Statement) (leaves : List ℕ) (id : ExprId) (leaf : ℕ) → AreLeaves store ss leaves → Stands store id (Leaf leaf) → AreLeaves store (ss ++ statement.Expr id ∷ []) (leaves ++ leaf ∷ [])
-  leaves_on [] [] id leaf are stands = (stands, tt)
-  leaves_on (statement.Expr i ∷ ss) (l ∷ leaves) id leaf are stands = (are.0, leaves_on ss leaves id leaf are.1 stands)
-  leaves_on [] (l ∷ leaves) id leaf are stands = absurd are
-  leaves_on (statement.Expr i ∷ ss) [] id leaf are stands = absurd are
-  leaves_on (statement.Let pat i ∷ ss) leaves id leaf are stands = absurd are
+  arguments_on : (ss : List Statement) (args : List (Option Argument)) (id : ExprId) (arg : Option Argument) → AreArguments store ss args → Stands store id (argument_tree arg) → AreArguments store (ss ++ statement.Expr id ∷ []) (args ++ arg ∷ [])
+  arguments_on [] [] id arg are stands = (stands, tt)
+  arguments_on (statement.Expr i ∷ ss) (a ∷ args) id arg are stands = (are.0, arguments_on ss args id arg are.1 stands)
+  arguments_on [] (a ∷ args) id arg are stands = absurd are
+  arguments_on (statement.Expr i ∷ ss) [] id arg are stands = absurd are
+  arguments_on (statement.Let pat i ∷ ss) args id arg are stands = absurd are
 
-  pub adds_on : (so_far ss more : List Statement) (leaves : List ℕ) (id : ExprId) (leaf : ℕ) → AddsLeaves store so_far ss leaves → more ≡ ss ++ statement.Expr id ∷ [] → Stands store id (Leaf leaf) → AddsLeaves store so_far more (leaves ++ leaf ∷ [])
-  adds_on so_far ss more leaves id leaf was is stands = record {
+  pub adds_on : (so_far ss more : List Statement) (args : List (Option Argument)) (id : ExprId) (arg : Option Argument) → AddsArguments store so_far ss args → more ≡ ss ++ statement.Expr id ∷ [] → Stands store id (argument_tree arg) → AddsArguments store so_far more (args ++ arg ∷ [])
+  adds_on so_far ss more args id arg was is stands = record {
     added = was.added ++ statement.Expr id ∷ [];
     are = is ∙ ap (λ l. l ++ statement.Expr id ∷ []) was.are ∙ append_assoc so_far was.added (statement.Expr id ∷ []);
-    stand = leaves_on was.added leaves id leaf was.stand stands;
+    stand = arguments_on was.added args id arg was.stand stands;
   }
 
   -- one more reference
-  pub references_on : (ids : List ExprId) (leaves : List ℕ) (id : ExprId) (leaf : ℕ) → AllStand store ids (references (arguments_of leaves)) → Stands store id (Ref (Leaf leaf)) → AllStand store (ids ++ id ∷ []) (references (arguments_of (leaves ++ leaf ∷ [])))
-  references_on [] [] id leaf all stands = (stands, tt)
-  references_on (i ∷ ids) (l ∷ leaves) id leaf all stands = (all.0, references_on ids leaves id leaf all.1 stands)
-  references_on [] (l ∷ leaves) id leaf all stands = absurd all
-  references_on (i ∷ ids) [] id leaf all stands = absurd all
+  pub references_on : (ids : List ExprId) (args : List (Option Argument)) (id : ExprId) (arg : Option Argument) → AllStand store ids (references args) → Stands store id (Ref (argument_tree arg)) → AllStand store (ids ++ id ∷ []) (references (args ++ arg ∷ []))
+  references_on [] [] id arg all stands = (stands, tt)
+  references_on (i ∷ ids) (a ∷ args) id arg all stands = (all.0, references_on ids args id arg all.1 stands)
+  references_on [] (a ∷ args) id arg all stands = absurd all
+  references_on (i ∷ ids) [] id arg all stands = absurd all
 
   -- one more element
   elements_on : (n : ℕ) (ids : List ExprId) (pairs : List Pair) (id : ExprId) (pair : Pair) → AllStand store ids (elements n pairs) → Stands store id (made_tree n pair) → AllStand store (ids ++ id ∷ []) (elements n (pairs ++ pair ∷ []))
@@ -187,6 +188,6 @@ within_from count a (suc n) le = (named_within count a (omega (arith, le)), with
 pub numbered_within : (count pairs : ℕ) → pairs ≤ count → AreWithin count (numbered_pairs count pairs)
 numbered_within count pairs le = within_from count 0 pairs (omega (arith, le))
 
--- one leaf more of a list
-pub next_leaf : (leaves : List ℕ) (i leaf : ℕ) → i < length leaves → leaf ≡ get_or leaves i leaf → take (i + 1) leaves ≡ take i leaves ++ leaf ∷ []
-next_leaf leaves i leaf lt is = take_more leaves i leaf lt ∙ ap (λ (x : ℕ). take i leaves ++ x ∷ []) (sym is)
+-- one argument more of a list
+pub arguments_of-more : (args : List FormatArgSyntax) (i : ℕ) (arg : FormatArgSyntax) → i < length args → arg ≡ get_or args i arg → arguments_of (take (i + 1) args) ≡ arguments_of (take i args) ++ argument_of arg ∷ []
+arguments_of-more args i arg lt is = ap arguments_of (take_more args i arg lt ∙ ap (λ (a : FormatArgSyntax). take i args ++ a ∷ []) (sym is)) ∙ map-append argument_of (take i args) (arg ∷ [])

@@ -1,18 +1,18 @@
 -- The code of format calls and what reads back, on worked examples whose trees and slots were written by hand.
 use lib.Utf8.{encode}
-use Rattle.std.specs.Prelude.{◌≡◌, ℕ, true, false, List, [], ◌∷◌, None, refl}
+use Rattle.std.specs.Prelude.{◌≡◌, ℕ, true, false, List, [], ◌∷◌, Option, Some, None, refl}
 use Rattle.std.specs.List.{flat_map}
 use Rattle.sym_core.specs.declared.name.Name.TheVariants as name
 use Rattle.hir_store.specs.declared.lang_item.LangItem.TheVariants.{FormatArguments, FormatArgument}
 use Rattle.hir_store.specs.declared.lang_item.LangFn.TheVariants.{New, FromStr, NewDisplay, NewLowerHex, FromUsize}
-use Rattle.hir_store.specs.Tree.{Tree, Leaf, Path, LangPath, Text, Bytes, Ref, Tuple, Field, Array, Call, Block, Empty, More, Tail, Let, Do}
+use Rattle.hir_store.specs.Tree.{Tree, Missing, Leaf, Path, LangPath, Text, Bytes, Ref, Tuple, Field, Array, Call, Block, Empty, More, Tail, Let, Do}
 use Rattle.code_meaning.specs.Write.{Display, LowerHex, Options, NoCount, Is, Of, Piece, Literal, Placeholder}
 use Rattle.code_meaning.specs.Template.{ByteItem, SlotItem}
 use Rattle.hir_lower.specs.FormatCode.{Argument, LeafArgument, NameArgument, Pair, put_pair, count_pair, with_arguments, text_code, AreAmong, pairs_of_piece, items_of_piece}
 
 -- `@7, x`
-arguments : List Argument
-arguments = LeafArgument 7 ∷ NameArgument (120 ∷ []) ∷ []
+arguments : List (Option Argument)
+arguments = Some (LeafArgument 7) ∷ Some (NameArgument (120 ∷ [])) ∷ []
 
 -- `{1}{0:1$}{0:x}`
 pairs : List Pair
@@ -30,7 +30,7 @@ field : ℕ → Tree
 field place = Field (Path (name.Fresh 3)) (name.TupleField place)
 
 -- one element for each pair, and the orphan `@7` in front of the template
-code_of_pairs : (bytes : List ℕ) → with_arguments 3 arguments pairs bytes (LeafArgument 7 ∷ []) ≡
+code_of_pairs : (bytes : List ℕ) → with_arguments 3 arguments pairs bytes (Some (LeafArgument 7) ∷ []) ≡
     Block false
     (Let (name.Fresh 3) (Tuple (More (Ref (Leaf 7)) (More (Ref (Path (name.Text (120 ∷ [])))) Empty)))
     (Let (name.Fresh 3)
@@ -49,7 +49,7 @@ no_arguments : (bytes : List ℕ) → with_arguments 3 [] [] bytes [] ≡ templa
 unfolding template
 no_arguments bytes = refl
 
-orphans_alone : (bytes : List ℕ) → with_arguments 3 [] [] bytes (LeafArgument 7 ∷ []) ≡ Block false (Do (Leaf 7) (Tail (template bytes (Array Empty))))
+orphans_alone : (bytes : List ℕ) → with_arguments 3 [] [] bytes (Some (LeafArgument 7) ∷ []) ≡ Block false (Do (Leaf 7) (Tail (template bytes (Array Empty))))
 unfolding template
 orphans_alone bytes = refl
 
@@ -61,6 +61,18 @@ text_behind_arguments : text_code arguments (104 ∷ [])
     ≡ Block false (Do (Leaf 7) (Do (Path (name.Text (120 ∷ []))) (Tail (Call (LangPath FormatArguments FromStr) (More (Text (104 ∷ [])) Empty)))))
 unfolding arguments
 text_behind_arguments = refl
+
+-- an absent argument is missing, as a reference and as a statement
+absent_in_front : (bytes : List ℕ) → with_arguments 3 (None ∷ []) (put_pair 0 Display ∷ []) bytes [] ≡
+    Block false
+    (Let (name.Fresh 3) (Tuple (More (Ref Missing) Empty))
+    (Let (name.Fresh 3) (Array (More (Call (LangPath FormatArgument NewDisplay) (More (field 0) Empty)) Empty))
+    (Tail (template bytes (Path (name.Fresh 3))))))
+unfolding template field
+absent_in_front bytes = refl
+
+absent_statement : text_code (None ∷ []) (104 ∷ []) ≡ Block false (Do Missing (Tail (Call (LangPath FormatArguments FromStr) (More (Text (104 ∷ [])) Empty))))
+absent_statement = refl
 
 -- `{1}é{0:1$.4}{0:x}`
 pieces : List Piece

@@ -1,3 +1,4 @@
+pub mod Reached
 pub mod Codes
 pub mod Outcomes
 pub mod RunsOnce

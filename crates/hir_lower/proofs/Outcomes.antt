@@ -31,8 +31,8 @@ module _ (old new : ExpressionStore) (placed : IsPlaced old) (grows : Grows old 
 
   code_later : (call : Call) (id : ExprId) → IsCode old call id → IsCode new call id
   code_later (Format call) id code = record {
-    writes = λ pieces has fits. runs_later id _ _ (code.writes pieces has fits);
-    empty = λ none. runs_later id _ _ (code.empty none);
+    writes = λ pieces formed. runs_later id _ _ (code.writes pieces formed);
+    empty = λ none there. runs_later id _ _ (code.empty none there);
   }
 
   outcome_later : (options : Options) (call : GatedCall) (outcome : Outcome) → IsOutcome options old call outcome → IsOutcome options new call outcome

@@ -38,16 +38,16 @@ value_at-references (arg ∷ args) zero k lt = ap (λ i. Some (RefValue (At i)))
 value_at-references (arg ∷ args) (suc place) k lt = value_at-references args place (k + 1) (omega (arith, lt)) ∙ ap (λ i. Some (RefValue (At i))) (omega arith)
 
 module _ (env : Environment) (free : BindsNoText env) where
-  argument_runs : (arg : Argument) (k : ℕ) → eval (argument_tree arg) env k ≡ Some (event_of arg ∷ [], At k)
+  argument_runs : (arg : Argument) (k : ℕ) → eval (argument_tree (Some arg)) env k ≡ Some (event_of arg ∷ [], At k)
   argument_runs (LeafArgument n) k = refl
   argument_runs (NameArgument text) k = rw (free text) refl
 
-  references_run : (args : List Argument) (k : ℕ) → eval_all (references args) env k ≡ Some (map event_of args, references_from k args)
+  references_run : (args : List Argument) (k : ℕ) → eval_all (references (map Some args)) env k ≡ Some (map event_of args, references_from k args)
   references_run [] k = refl
   references_run (arg ∷ args) k = rw (argument_runs arg k, references_run args (k + 1), append-nil) refl
 
   -- a tail that runs without an event runs behind statements too
-  statements_run : (args : List Argument) (tail : Tree) (v : Value) → ((k : ℕ) → eval tail env k ≡ Some ([], v)) → (k : ℕ) → eval_steps (statements args tail) env k ≡ Some (map event_of args, v)
+  statements_run : (args : List Argument) (tail : Tree) (v : Value) → ((k : ℕ) → eval tail env k ≡ Some ([], v)) → (k : ℕ) → eval_steps (statements (map Some args) tail) env k ≡ Some (map event_of args, v)
   statements_run [] tail v runs k = runs k
   statements_run (arg ∷ args) tail v runs k = rw (argument_runs arg k, statements_run args tail v runs (k + 1)) refl
 
@@ -70,13 +70,13 @@ new_runs env bytes list pairs runs k = rw (runs (k + 0), all_made-values pairs) 
 fresh_bound : (n : ℕ) (v : Value) (env : Environment) → bound_value ((name.Fresh n, v) ∷ env) (name.Fresh n) ≡ Some v
 fresh_bound n v env = rw (eq-eqb n n refl) refl
 
-behind_runs : (args : List Argument) (tail : Tree) (v : Value) → ((k : ℕ) → eval tail [] k ≡ Some ([], v)) → evaluation_of (behind_statements args tail) ≡ Some (map event_of args, v)
+behind_runs : (args : List Argument) (tail : Tree) (v : Value) → ((k : ℕ) → eval tail [] k ≡ Some ([], v)) → evaluation_of (behind_statements (map Some args) tail) ≡ Some (map event_of args, v)
 behind_runs [] tail v runs = runs 0
 behind_runs (arg ∷ args) tail v runs = statements_run [] (λ text. refl) (arg ∷ args) tail v runs 0
 
 -- both lets, and behind them the statements with the template as tail
 lets_run : (n : ℕ) (args : List Argument) (pairs : List Pair) (bytes : List ℕ) (orphans : List Argument) → AreWithin (length args) pairs →
-    evaluation_of (Block false (let_steps n args pairs bytes orphans)) ≡ Some (map event_of args ++ map event_of orphans, Arguments bytes (values_of pairs))
+    evaluation_of (Block false (let_steps n (map Some args) pairs bytes (map Some orphans))) ≡ Some (map event_of args ++ map event_of orphans, Arguments bytes (values_of pairs))
 lets_run n args pairs bytes orphans are =
     let tuple = TupleValue (references_from 0 args) in
     let list = ListValue (values_of pairs) in

@@ -1,5 +1,5 @@
 -- What placing code does to a store: it grows by no more than some values, and is refused only where these do not fit.
-use Rattle.std.specs.Prelude.{◌≡◌, ℕ, ◌+◌, ◌<◌, ◌≤◌, ◌⊎◌, cond, nat_lt, List, [], ◌∷◌, ◌++◌, length, map, Some, ⊤}
+use Rattle.std.specs.Prelude.{◌≡◌, ℕ, ◌+◌, ◌<◌, ◌≤◌, ◌⊎◌, cond, nat_lt, List, [], ◌∷◌, ◌++◌, length, map, Option, Some, option_map, ⊤}
 use Rattle.std.specs.List.{range_with_len}
 use Rattle.sym_core.specs.declared.name.Name.{Name}
 use Rattle.hir_store.specs.declared.ids.ExprId.{ExprId}
@@ -9,11 +9,13 @@ use Rattle.hir_store.specs.declared.expr.Statement.TheVariants as statement
 use Rattle.hir_store.specs.declared.store.ExpressionStore.{ExpressionStore}
 use Rattle.hir_store.specs.declared.lang_item.LangItem.TheVariants.{FormatArguments}
 use Rattle.hir_store.specs.declared.lang_item.LangFn.TheVariants.{New}
-use Rattle.hir_store.specs.Tree.{Tree, Trees, Leaf, LangPath, Bytes, Ref, Call, Empty, More}
+use Rattle.hir_store.specs.Tree.{Tree, Trees, LangPath, Bytes, Ref, Call, Empty, More}
 use Rattle.hir_store.specs.Unfolding.{name_in}
 use Rattle.hir_store.specs.Store.{Grows, Stands, IsPlaced}
 use Rattle.code_meaning.specs.Write.{Display}
-use Rattle.hir_lower.specs.FormatCode.{Argument, LeafArgument, Pair, put_pair}
+use Rattle.syn_trees.specs.declared.format_call.FormatArgSyntax.{FormatArgSyntax}
+use Rattle.syn_trees.specs.declared.format_call.LeafSyntax.{LeafSyntax}
+use Rattle.hir_lower.specs.FormatCode.{Argument, LeafArgument, argument_tree, Pair, put_pair}
 
 -- the store grew by at most this many expressions, and by at most this many patterns and bindings; parts still stand before wholes
 pub record Builds (old new : ExpressionStore) (most lets : ℕ) : Type 0 where
@@ -43,19 +45,19 @@ pub record AreLets (store : ExpressionStore) (statements : List Statement) (name
   pub one : IsLet store first name t
   pub other : IsLet store second name u
 
--- each statement is the leaf beside it
-abbrev pub AreLeaves : ExpressionStore → List Statement → List ℕ → Type 0
-AreLeaves store [] [] = ⊤
-AreLeaves store (statement.Expr id ∷ statements) (leaf ∷ leaves) = Stands store id (Leaf leaf) × AreLeaves store statements leaves
-AreLeaves store [] (leaf ∷ leaves) = ⊥
-AreLeaves store (statement.Expr id ∷ statements) [] = ⊥
-AreLeaves store (statement.Let pat id ∷ statements) leaves = ⊥
+-- each statement is the argument beside it
+abbrev pub AreArguments : ExpressionStore → List Statement → List (Option Argument) → Type 0
+AreArguments store [] [] = ⊤
+AreArguments store (statement.Expr id ∷ statements) (arg ∷ args) = Stands store id (argument_tree arg) × AreArguments store statements args
+AreArguments store [] (arg ∷ args) = ⊥
+AreArguments store (statement.Expr id ∷ statements) [] = ⊥
+AreArguments store (statement.Let pat id ∷ statements) args = ⊥
 
--- the statements are those so far and behind them the leaves
-pub record AddsLeaves (store : ExpressionStore) (so_far statements : List Statement) (leaves : List ℕ) : Type 0 where
+-- the statements are those so far and behind them the arguments
+pub record AddsArguments (store : ExpressionStore) (so_far statements : List Statement) (args : List (Option Argument)) : Type 0 where
   pub added : List Statement
   pub are : statements ≡ so_far ++ added
-  pub stand : AreLeaves store added leaves
+  pub stand : AreArguments store added args
 
 -- the arguments of `Arguments::new`: `BYTES`, `&LIST`
 abbrev pub template_parts : List ℕ → Tree → Trees
@@ -65,9 +67,13 @@ template_parts bytes array = More (Bytes bytes) (More (Ref array) Empty)
 abbrev pub new_call : List ℕ → Tree → Tree
 new_call bytes array = Call (LangPath FormatArguments New) (template_parts bytes array)
 
--- the arguments that leaves of the source are
-abbrev pub arguments_of : List ℕ → List Argument
-arguments_of leaves = map LeafArgument leaves
+-- the argument that one of the source is: its expression, by its number, where it has one
+abbrev pub argument_of : FormatArgSyntax → Option Argument
+argument_of arg = option_map (λ (leaf : LeafSyntax). LeafArgument leaf.leaf) arg.expr
+
+-- the arguments that those of the source are
+abbrev pub arguments_of : List FormatArgSyntax → List (Option Argument)
+arguments_of args = map argument_of args
 
 -- the place that the element of this number names, among this many arguments; one that no argument has where there are too few
 abbrev pub named_place : ℕ → ℕ → ℕ

@@ -1,11 +1,11 @@
 -- The code of a format call with arguments, as a tree; what its evaluation gives, and that its arguments read the pieces back.
-use Rattle.std.specs.Prelude.{◌≡◌, ℕ, suc, ◌<◌, Bool, true, false, ◌&&◌, ◌||◌, cond, IsTrue, List, [], ◌∷◌, ◌++◌, length, nat_eq, Some, map, encode_utf8}
+use Rattle.std.specs.Prelude.{◌≡◌, ℕ, suc, ◌<◌, Bool, true, false, ◌&&◌, ◌||◌, cond, IsTrue, List, [], ◌∷◌, ◌++◌, length, nat_eq, Option, Some, None, map, encode_utf8}
 use Rattle.std.specs.List.{AllByRecursion, flat_map}
 use Rattle.sym_core.specs.declared.name.Name.TheVariants as name
 use Rattle.hir_store.specs.declared.lang_item.LangItem.TheVariants.{FormatArguments, FormatArgument}
 use Rattle.hir_store.specs.declared.lang_item.LangFn.{LangFn}
 use Rattle.hir_store.specs.declared.lang_item.LangFn.TheVariants.{New, NewDisplay, NewDebug, NewLowerExp, NewUpperExp, NewOctal, NewPointer, NewBinary, NewLowerHex, NewUpperHex, FromUsize}
-use Rattle.hir_store.specs.Tree.{Tree, Trees, Steps, Leaf, Path, LangPath, Bytes, Ref, Tuple, Field, Array, Call, Block, Empty, More, Tail, Let, Do}
+use Rattle.hir_store.specs.Tree.{Tree, Trees, Steps, Missing, Leaf, Path, LangPath, Bytes, Ref, Tuple, Field, Array, Call, Block, Empty, More, Tail, Let, Do}
 use Rattle.code_meaning.specs.Write.{Trait, Display, Debug, LowerExp, UpperExp, Octal, Pointer, Binary, LowerHex, UpperHex, Count, NoCount, Is, Of, Piece, Literal, Placeholder, writes_of}
 use Rattle.code_meaning.specs.Value.{Event, LeafEvent, NameEvent, Use, By, AsCount, Values, At, Made, Arguments, FromText}
 use Rattle.code_meaning.specs.Value as value
@@ -24,9 +24,11 @@ abbrev pub event_of : Argument → Event
 event_of (LeafArgument n) = LeafEvent n
 event_of (NameArgument text) = NameEvent text
 
-abbrev pub argument_tree : Argument → Tree
-argument_tree (LeafArgument n) = Leaf n
-argument_tree (NameArgument text) = Path (name.Text text)
+-- the tree of an argument that may be absent
+abbrev pub argument_tree : Option Argument → Tree
+argument_tree None = Missing
+argument_tree (Some (LeafArgument n)) = Leaf n
+argument_tree (Some (NameArgument text)) = Path (name.Text text)
 
 -- an argument, by its place, with one use of it
 pub record Pair : Type 0 where
@@ -47,7 +49,7 @@ function_of (By UpperHex) = NewUpperHex
 function_of AsCount = FromUsize
 
 -- `&ARG` for each argument, in order
-abbrev pub references : List Argument → Trees
+abbrev pub references : List (Option Argument) → Trees
 references [] = Empty
 references (arg ∷ args) = More (Ref (argument_tree arg)) (references args)
 
@@ -61,12 +63,12 @@ elements n [] = Empty
 elements n (pair ∷ pairs) = More (made_tree n pair) (elements n pairs)
 
 -- each argument as a statement, and behind them a tail
-abbrev pub statements : List Argument → Tree → Steps
+abbrev pub statements : List (Option Argument) → Tree → Steps
 statements [] tail = Tail tail
 statements (arg ∷ args) tail = Do (argument_tree arg) (statements args tail)
 
 -- the tail behind the statements, in a block where there are statements
-abbrev pub behind_statements : List Argument → Tree → Tree
+abbrev pub behind_statements : List (Option Argument) → Tree → Tree
 behind_statements [] tail = tail
 behind_statements (arg ∷ args) tail = Block false (statements (arg ∷ args) tail)
 
@@ -75,19 +77,19 @@ abbrev pub new_code : List ℕ → Tree → Tree
 new_code bytes list = Block true (Tail (Call (LangPath FormatArguments New) (More (Bytes bytes) (More (Ref list) Empty))))
 
 -- `let #n = (&ARG, ..); let #n = [Argument::FUNCTION(#n.PLACE), ..]; ORPHAN; .. unsafe { Arguments::new(BYTES, &#n) }`
-abbrev pub let_steps : ℕ → List Argument → List Pair → List ℕ → List Argument → Steps
+abbrev pub let_steps : ℕ → List (Option Argument) → List Pair → List ℕ → List (Option Argument) → Steps
 let_steps n args pairs bytes orphans =
     Let (name.Fresh n) (Tuple (references args))
     (Let (name.Fresh n) (Array (elements n pairs))
     (statements orphans (new_code bytes (Path (name.Fresh n)))))
 
 -- a block of the two `let`s, the orphans and the template; without arguments there is no `let`, and the list is `[]`
-abbrev pub with_arguments : ℕ → List Argument → List Pair → List ℕ → List Argument → Tree
+abbrev pub with_arguments : ℕ → List (Option Argument) → List Pair → List ℕ → List (Option Argument) → Tree
 with_arguments n [] pairs bytes orphans = behind_statements orphans (new_code bytes (Array Empty))
 with_arguments n (arg ∷ args) pairs bytes orphans = Block false (let_steps n (arg ∷ args) pairs bytes orphans)
 
 -- without a placeholder: `Arguments::from_str(TEXT)` behind all arguments as statements
-abbrev pub text_code : List Argument → List ℕ → Tree
+abbrev pub text_code : List (Option Argument) → List ℕ → Tree
 text_code args text = behind_statements args (from_str_code text)
 
 -- what the elements of the array stand for: each argument's value made for its pair's use
@@ -168,14 +170,15 @@ items_of_piece pairs (Placeholder place asked) = SlotItem (record {
 abbrev pub AreWithin : ℕ → List Pair → Type 0
 AreWithin count pairs = AllByRecursion (λ (pair : Pair). pair.place < count) pairs
 
--- code with arguments evaluates each argument once, in order, then each orphan, and gives the template with one value for each pair
+-- code with arguments that are all there evaluates each argument once, in order, then each orphan, and gives the template with one value
+-- for each pair
 abbrev pub RunsOnce : Type 0
 RunsOnce = (n : ℕ) (args : List Argument) (pairs : List Pair) (bytes : List ℕ) (orphans : List Argument) → AreWithin (length args) pairs →
-    evaluation_of (with_arguments n args pairs bytes orphans) ≡ Some (map event_of args ++ map event_of orphans, Arguments bytes (values_of pairs))
+    evaluation_of (with_arguments n (map Some args) pairs bytes (map Some orphans)) ≡ Some (map event_of args ++ map event_of orphans, Arguments bytes (values_of pairs))
 
--- code without a placeholder evaluates each argument once, in order, and gives the text
+-- code without a placeholder, with arguments that are all there, evaluates each argument once, in order, and gives the text
 abbrev pub TextRuns : Type 0
-TextRuns = (args : List Argument) (text : List ℕ) → evaluation_of (text_code args text) ≡ Some (map event_of args, FromText text)
+TextRuns = (args : List Argument) (text : List ℕ) → evaluation_of (text_code (map Some args) text) ≡ Some (map event_of args, FromText text)
 
 -- where each pair of the pieces is among the pairs, the items of the pieces write, over the values of the pairs, what the pieces write
 abbrev pub ReadsBack : Type 0

@@ -1,6 +1,7 @@
--- What the outcomes of calls are: each call is off exactly where one of its predicates reads false; else it has code whose evaluation
--- runs through and whose value means the writes of the call's text.
-use Rattle.std.specs.Prelude.{◌≡◌, ℕ, ◌+◌, ◌*◌, ◌<◌, ◌≤◌, true, false, cond, suc, List, [], ◌∷◌, length, drop, map, Option, Some, None}
+-- What the outcomes of calls are: each call is off exactly where one of its predicates reads false; else it has code. The evaluation of
+-- the code of a well formed call runs through, and its value means the writes of the call's text.
+use Rattle.std.specs.Prelude.{◌≡◌, ℕ, ◌+◌, ◌*◌, ◌<◌, ◌≤◌, true, false, cond, suc, List, [], ◌∷◌, length, drop, map, Option, Some, None, IsSome, option_and_then}
+use Rattle.std.specs.List.{AllByRecursion}
 use Rattle.std.specs.Str.{chars}
 use Rattle.hir_store.specs.declared.ids.ExprId.{ExprId}
 use Rattle.hir_store.specs.declared.store.ExpressionStore.{ExpressionStore}
@@ -11,10 +12,16 @@ use Rattle.code_meaning.specs.Evaluation.{evaluation_of}
 use Rattle.code_meaning.specs.Meaning.{Writes, meaning}
 use Rattle.ra_cfg.specs.Options.{Options}
 use Rattle.ra_cfg.specs.Reading.{is_off}
+use Rattle.syn_trees.specs.declared.format_call.Template.{Template}
+use Rattle.syn_trees.specs.declared.format_call.Template.TheVariants.{Str, Macro, Other}
+use Rattle.syn_trees.specs.declared.format_call.FormatCall.{FormatCall}
+use Rattle.syn_trees.specs.declared.format_call.FormatArgSyntax.{FormatArgSyntax}
+use Rattle.syn_trees.specs.declared.format_call.LeafSyntax.{LeafSyntax}
+use Rattle.syn_trees.specs.Literal.{HasValue}
+use Rattle.syn_trees.specs.ReadString.{value_of}
 use Rattle.hir_lower.specs.declared.call.GatedCall.{GatedCall}
 use Rattle.hir_lower.specs.declared.call.Call.{Call}
 use Rattle.hir_lower.specs.declared.call.Call.TheVariants.{Format}
-use Rattle.hir_lower.specs.declared.call.FormatCall.{FormatCall}
 use Rattle.hir_lower.specs.declared.call.Outcome.{Outcome}
 use Rattle.hir_lower.specs.declared.call.Outcome.TheVariants.{Off, Code}
 use Rattle.hir_lower.specs.declared.template_text.Part.{Part}
@@ -28,15 +35,49 @@ pub record Runs (store : ExpressionStore) (id : ExprId) (events : List Event) (w
   pub evaluation : evaluation_of (tree_at store id) ≡ Some (events, value)
   pub means : meaning value ≡ Some writes
 
--- the events of a call's arguments: each leaf once, in order
-abbrev pub events_of : FormatCall → List Event
-events_of call = map LeafEvent call.leaves
+-- a template reaches a text: a string literal its value; no other template reaches a text yet
+abbrev pub Reaches : Option Template → List ℕ → Type 0
+Reaches (Some (Str token)) text = HasValue token text
+Reaches (Some (Macro call)) text = ⊥
+Reaches (Some Other) text = ⊥
+Reaches None text = ⊥
 
--- the code of a well formed `format_args!`, one whose text has pieces with as many placeholders as there are leaves, evaluates the leaves
--- once each, in order, and means the writes of these pieces; a text without pieces counts as empty
+-- the text that the template of a call reaches has these pieces
+pub record HasPiecesOf (call : FormatCall) (pieces : List Piece) : Type 0 where
+  pub text : List ℕ
+  pub reached : Reaches call.template text
+  pub has : HasPieces text pieces
+
+-- every argument has an expression
+abbrev pub AllThere : List FormatArgSyntax → Type 0
+AllThere args = AllByRecursion (λ (arg : FormatArgSyntax). IsSome arg.expr) args
+
+-- the number of an expression, where it is there, in front of others
+abbrev pub with_leaf : Option LeafSyntax → List ℕ → List ℕ
+with_leaf None leaves = leaves
+with_leaf (Some leaf) leaves = leaf.leaf ∷ leaves
+
+-- the numbers of the expressions that are there, in order
+abbrev pub leaves_of : List FormatArgSyntax → List ℕ
+leaves_of [] = []
+leaves_of (arg ∷ args) = with_leaf arg.expr (leaves_of args)
+
+-- the events of a call's arguments: each expression once, in order
+abbrev pub events_of : FormatCall → List Event
+events_of call = map LeafEvent (leaves_of call.args)
+
+-- a call is well formed, with these pieces: its text has them, each argument has an expression, and there are as many placeholders as
+-- arguments
+pub record IsWellFormed (call : FormatCall) (pieces : List Piece) : Type 0 where
+  pub are : HasPiecesOf call pieces
+  pub there : AllThere call.args
+  pub fits : placeholders pieces ≡ length call.args
+
+-- the code of a well formed `format_args!` evaluates the arguments once each, in order, and means the writes of its pieces; where no text
+-- with pieces is reached, the text counts as empty
 pub record IsFormatCode (store : ExpressionStore) (call : FormatCall) (id : ExprId) : Type 0 where
-  pub writes : (pieces : List Piece) → HasPieces call.template pieces → placeholders pieces ≡ length call.leaves → Runs store id (events_of call) (writes_of At pieces)
-  pub empty : ((pieces : List Piece) → HasPieces call.template pieces → ⊥) → Runs store id (events_of call) []
+  pub writes : (pieces : List Piece) → IsWellFormed call pieces → Runs store id (events_of call) (writes_of At pieces)
+  pub empty : ((pieces : List Piece) → HasPiecesOf call pieces → ⊥) → AllThere call.args → Runs store id (events_of call) []
 
 -- the code of a call
 abbrev pub IsCode : ExpressionStore → Call → ExprId → Type 0
@@ -80,12 +121,24 @@ abbrev pub count_of : Option (List Part) → ℕ
 count_of None = 0
 count_of (Some parts) = holes parts
 
-abbrev pub pairs_in : FormatCall → ℕ
-pairs_in call = count_of (parts_of (chars call.template))
+-- the text that a template reaches
+abbrev pub text_of : Option Template → Option (List ℕ)
+text_of (Some (Str token)) = value_of token
+text_of (Some (Macro call)) = None
+text_of (Some Other) = None
+text_of None = None
 
--- the most expressions that a call of n leaves and p placeholders places: 2n + 4p + 9, and one for each leaf behind the first p
+-- the parts of a text
+abbrev pub parts_in : List ℕ → Option (List Part)
+parts_in text = parts_of (chars text)
+
+-- how many placeholders the text of a call has
+abbrev pub pairs_in : FormatCall → ℕ
+pairs_in call = count_of (option_and_then parts_in (text_of call.template))
+
+-- the most expressions that a call of n arguments and p placeholders places: 2n + 4p + 9, and one for each argument behind the first p
 abbrev pub most_of_format : FormatCall → ℕ
-most_of_format call = 2 * length call.leaves + 4 * pairs_in call + length (drop (pairs_in call) call.leaves) + 9
+most_of_format call = 2 * length call.args + 4 * pairs_in call + length (drop (pairs_in call) call.args) + 9
 
 abbrev pub most_of_call : Call → ℕ
 most_of_call (Format call) = most_of_format call

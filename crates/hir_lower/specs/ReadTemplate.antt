@@ -11,6 +11,9 @@ use Rattle.hir_lower.specs.Pieces.{placeholders, HasPieces}
 use Rattle.hir_lower.specs.FormatCode.{items_of_piece}
 use Rattle.hir_lower.specs.PlainPairs.{plain_pairs}
 use Rattle.hir_lower.specs.Form.{HasForm}
+use Rattle.syn_trees.specs.declared.format_call.FormatCall.{FormatCall}
+use Rattle.syn_trees.specs.declared.format_call.Template.{Template as FormatTemplate}
+use Rattle.hir_lower.specs.Lowered.{Reaches, HasPiecesOf}
 
 -- none of the pieces is a placeholder, and the text writes what they write
 pub record IsTextOf (pieces : List Piece) (text : List ℕ) : Type 0 where
@@ -33,3 +36,13 @@ IsTemplate pieces (Bytes bytes count) = AreBytesOf pieces bytes.items count
 abbrev pub IsTemplateOf : List ℕ → Option Template → Type 0
 IsTemplateOf text None = (pieces : List Piece) → HasPieces text pieces → ⊥
 IsTemplateOf text (Some template) = (pieces : List Piece) × HasPieces text pieces × IsTemplate pieces template
+
+-- what is read of the template of a call: the text that it reaches, where it reaches one
+abbrev pub IsTextRead : Option FormatTemplate → Option (List ℕ) → Type 0
+IsTextRead template None = (text : List ℕ) → Reaches template text → ⊥
+IsTextRead template (Some text) = Reaches template text
+
+-- what is read of the text of a call
+abbrev pub IsTemplateOfCall : FormatCall → Option Template → Type 0
+IsTemplateOfCall call None = (pieces : List Piece) → HasPiecesOf call pieces → ⊥
+IsTemplateOfCall call (Some template) = (pieces : List Piece) × HasPiecesOf call pieces × IsTemplate pieces template

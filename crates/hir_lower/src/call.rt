@@ -1,7 +1,7 @@
 use hir_store::ExprId;
 use ra_cfg::CfgExpr;
 use sqlite_items::Items;
-use sym_core::Symbol;
+use syn_trees::FormatCall;
 
 /// A macro call of a function body, with what decides whether it is switched on.
 #[derive(Debug, Drop)]
@@ -17,15 +17,6 @@ pub struct GatedCall {
 pub enum Call {
     /// `format_args!`
     Format(FormatCall),
-}
-
-/// A call of `format_args!`.
-#[derive(Debug, Drop)]
-pub struct FormatCall {
-    /// The format text: what its string literal stands for.
-    pub template: Symbol,
-    /// The arguments, in order: each an expression of the source, by its number.
-    pub leaves: Items<u32>,
 }
 
 /// What becomes of a call.

@@ -1,15 +1,16 @@
 ghost use Rattle.std.specs.Prelude.{◌≡◌, ◌≢◌, ℕ, false, ◌+◌, ◌*◌, ◌<◌, ◌≤◌, [], ◌∷◌, ◌++◌, length, drop, Some, IfOk};
 ghost use Rattle.sym_core.specs.declared.name.Name.{Name};
 ghost use Rattle.code_meaning.specs.Write.{Display};
-ghost use Rattle.hir_store.specs.Tree.{Tree, Steps, Leaf, Path, Bytes, Ref, Tuple, Field, Array, Call, Block, Empty, More, Let};
+ghost use Rattle.hir_store.specs.Tree.{Tree, Steps, Path, Ref, Tuple, Field, Array, Call, Block, Empty, More, Let};
 ghost use Rattle.hir_store.specs.Unfolding.{place_of, name_in, binding_name};
+ghost use Rattle.hir_store.specs.declared.store.ExpressionStore.{ExpressionStore};
 ghost use Rattle.hir_store.specs.Store.{Grows, Stands, AllStand, IsPlaced};
 ghost use Rattle.hir_store.specs.Makes.{StepsMake, Makes};
 ghost use Rattle.hir_store.specs.declared.lang_item.LangItem.TheVariants.{FormatArguments};
 ghost use Rattle.hir_store.specs.declared.lang_item.LangFn.TheVariants.{New};
 ghost use Rattle.hir_lower.specs.Code.{from_str_code};
-ghost use Rattle.hir_lower.specs.FormatCode.{put_pair, references, made_tree, elements, statements, new_code, with_arguments, text_code};
-ghost use Rattle.hir_lower.specs.Building.{Builds, Outgrows, IsLet, AreLets, AddsLeaves, arguments_of, named_place, numbered_pairs, template_parts, new_call};
+ghost use Rattle.hir_lower.specs.FormatCode.{argument_tree, put_pair, references, made_tree, elements, statements, new_code, with_arguments, text_code};
+ghost use Rattle.hir_lower.specs.Building.{Builds, Outgrows, IsLet, AreLets, AddsArguments, argument_of, arguments_of, named_place, numbered_pairs, template_parts, new_call};
 
 use crate::LowerError;
 use crate::format_args::{call_from_str, list, place};
@@ -20,6 +21,7 @@ use la_arena::ArenaError;
 use sqlite_items::Items;
 use std::alloc::{AllocError, Global};
 use sym_core::{Name, Symbol};
+use syn_trees::FormatArgSyntax;
 
 // Places an expression whose parts stand.
 fn build(store: &mut ExpressionStore, expr: Expr) -> Result<ExprId, LowerError>
@@ -33,13 +35,33 @@ fn build(store: &mut ExpressionStore, expr: Expr) -> Result<ExprId, LowerError>
     Ok(id)
 }
 
-// Places `&LEAF`.
-fn place_reference(store: &mut ExpressionStore, leaf: u32) -> Result<ExprId, LowerError>
-    ensures stands { IfOk result (λ id. Stands store.new id (Ref (Leaf leaf))) }
+// What an argument is: its expression, or a missing one where it has none.
+fn argument_expr(arg: &FormatArgSyntax) -> Expr
+    ensures { (store : ExpressionStore) → Makes store result (argument_tree (argument_of arg.now)) }
+{
+    match arg.expr {
+        Some(leaf) => Expr::Leaf(leaf.leaf),
+        None => Expr::Missing,
+    }
+}
+
+// Places an argument.
+fn place_argument(store: &mut ExpressionStore, arg: &FormatArgSyntax) -> Result<ExprId, LowerError>
+    ensures stands { IfOk result (λ id. Stands store.new id (argument_tree (argument_of arg.now))) }
+    ensures builds { Builds store.old store.new 1 0 }
+    ensures full { result ≡ Err LowerError.ArenaFull → 4_294_967_295 < length store.old.exprs + 1 }
+{
+    let argument = build(store, argument_expr(arg))?;
+    Ok(argument)
+}
+
+// Places `&ARG`.
+fn place_reference(store: &mut ExpressionStore, arg: &FormatArgSyntax) -> Result<ExprId, LowerError>
+    ensures stands { IfOk result (λ id. Stands store.new id (Ref (argument_tree (argument_of arg.now)))) }
     ensures builds { Builds store.old store.new 2 0 }
     ensures full { result ≡ Err LowerError.ArenaFull → 4_294_967_295 < length store.old.exprs + 2 }
 {
-    let argument = build(store, Expr::Leaf(leaf))?;
+    let argument = place_argument(store, arg)?;
     let reference = build(store, Expr::Ref(argument))?;
     Ok(reference)
 }
@@ -55,19 +77,19 @@ fn with_part(mut so_far: Vec<ExprId>, part: ExprId) -> Result<Vec<ExprId>, Lower
     }
 }
 
-// Places `&LEAF` for each leaf, in order.
+// Places `&ARG` for each argument, in order.
 fn place_references(
     alloc: Global,
     store: &mut ExpressionStore,
-    leaves: &[u32],
+    args: &[FormatArgSyntax],
 ) -> Result<Items<ExprId>, LowerError>
-    ensures stand { IfOk result (λ ids. AllStand store.new ids (references (arguments_of leaves.now))) }
-    ensures builds { Builds store.old store.new (2 * length leaves.now) 0 }
-    ensures full { result ≡ Err LowerError.ArenaFull → 4_294_967_295 < length store.old.exprs + 2 * length leaves.now }
+    ensures stand { IfOk result (λ ids. AllStand store.new ids (references (arguments_of args.now))) }
+    ensures builds { Builds store.old store.new (2 * length args.now) 0 }
+    ensures full { result ≡ Err LowerError.ArenaFull → 4_294_967_295 < length store.old.exprs + 2 * length args.now }
 {
     let mut parts = Vec::new(alloc);
-    for leaf in leaves {
-        let reference = place_reference(store, *leaf)?;
+    for arg in args {
+        let reference = place_reference(store, arg)?;
         parts = with_part(parts, reference)?;
     }
     Ok(Items::from_vec(parts))
@@ -187,18 +209,18 @@ fn place_let(
     Ok(Statement::Let { pat, initializer })
 }
 
-// `let #NUMBER = (&LEAF, ..);`
+// `let #NUMBER = (&ARG, ..);`
 fn place_tuple(
     alloc: Global,
     store: &mut ExpressionStore,
     number: u32,
-    leaves: &[u32],
+    args: &[FormatArgSyntax],
 ) -> Result<Statement, LowerError>
-    ensures is { IfOk result (λ statement. IsLet store.new statement (Name.Fresh number) (Tuple (references (arguments_of leaves.now)))) }
-    ensures builds { Builds store.old store.new (2 * length leaves.now + 1) 1 }
-    ensures full { result ≡ Err LowerError.ArenaFull → Outgrows store.old (2 * length leaves.now + 1) 1 }
+    ensures is { IfOk result (λ statement. IsLet store.new statement (Name.Fresh number) (Tuple (references (arguments_of args.now)))) }
+    ensures builds { Builds store.old store.new (2 * length args.now + 1) 1 }
+    ensures full { result ≡ Err LowerError.ArenaFull → Outgrows store.old (2 * length args.now + 1) 1 }
 {
-    let parts = place_references(alloc, store, leaves)?;
+    let parts = place_references(alloc, store, args)?;
     let tuple = build(store, Expr::Tuple(parts))?;
     let statement = place_let(store, number, tuple)?;
     Ok(statement)
@@ -238,15 +260,15 @@ fn place_lets(
     alloc: Global,
     store: &mut ExpressionStore,
     number: u32,
-    leaves: &[u32],
+    args: &[FormatArgSyntax],
     pairs: usize,
 ) -> Result<Vec<Statement>, LowerError>
-    ensures are { IfOk result (λ lets. AreLets store.new lets.items (Name.Fresh number) (Tuple (references (arguments_of leaves.now))) (Array (elements number (numbered_pairs (length leaves.now) pairs)))) }
-    ensures builds { Builds store.old store.new (2 * length leaves.now + 4 * pairs + 2) 2 }
-    ensures full { result ≡ Err LowerError.ArenaFull → Outgrows store.old (2 * length leaves.now + 4 * pairs + 2) 2 }
+    ensures are { IfOk result (λ lets. AreLets store.new lets.items (Name.Fresh number) (Tuple (references (arguments_of args.now))) (Array (elements number (numbered_pairs (length args.now) pairs)))) }
+    ensures builds { Builds store.old store.new (2 * length args.now + 4 * pairs + 2) 2 }
+    ensures full { result ≡ Err LowerError.ArenaFull → Outgrows store.old (2 * length args.now + 4 * pairs + 2) 2 }
 {
-    let tuple = place_tuple(alloc, store, number, leaves)?;
-    let array = place_array(alloc, store, number, leaves.len(), pairs)?;
+    let tuple = place_tuple(alloc, store, number, args)?;
+    let array = place_array(alloc, store, number, args.len(), pairs)?;
     let lets = two(alloc, tuple, array)?;
     Ok(lets)
 }
@@ -262,19 +284,19 @@ fn with_statement(mut so_far: Vec<Statement>, expr: ExprId) -> Result<Vec<Statem
     }
 }
 
-// Places each leaf, in order, as a statement behind those so far.
-fn place_leaves(
+// Places each argument, in order, as a statement behind those so far.
+fn place_arguments(
     store: &mut ExpressionStore,
     so_far: Vec<Statement>,
-    leaves: &[u32],
+    args: &[FormatArgSyntax],
 ) -> Result<Vec<Statement>, LowerError>
-    ensures adds { IfOk result (λ statements. AddsLeaves store.new so_far.items statements.items leaves.now) }
-    ensures builds { Builds store.old store.new (length leaves.now) 0 }
-    ensures full { result ≡ Err LowerError.ArenaFull → 4_294_967_295 < length store.old.exprs + length leaves.now }
+    ensures adds { IfOk result (λ statements. AddsArguments store.new so_far.items statements.items (arguments_of args.now)) }
+    ensures builds { Builds store.old store.new (length args.now) 0 }
+    ensures full { result ≡ Err LowerError.ArenaFull → 4_294_967_295 < length store.old.exprs + length args.now }
 {
     let mut statements = so_far;
-    for leaf in leaves {
-        let argument = build(store, Expr::Leaf(*leaf))?;
+    for arg in args {
+        let argument = place_argument(store, arg)?;
         statements = with_statement(statements, argument)?;
     }
     Ok(statements)
@@ -384,7 +406,7 @@ fn place_behind_lets(
     store: &mut ExpressionStore,
     number: u32,
     lets: Vec<Statement>,
-    orphans: &[u32],
+    orphans: &[FormatArgSyntax],
     bytes: Items<u8>,
 ) -> Result<ExprId, LowerError>
     ensures stands { (t u : Tree) → AreLets store.old lets.items (Name.Fresh number) t u →
@@ -393,7 +415,7 @@ fn place_behind_lets(
     ensures later { IfOk result (λ id. length store.old.exprs ≤ place_of id) }
     ensures full { result ≡ Err LowerError.ArenaFull → 4_294_967_295 < length store.old.exprs + length orphans.now + 7 }
 {
-    let statements = place_leaves(store, lets, orphans)?;
+    let statements = place_arguments(store, lets, orphans)?;
     let code = place_named_new(alloc, store, number, bytes)?;
     let block = place_block(store, statements, code, false)?;
     Ok(block)
@@ -415,71 +437,71 @@ fn place_bare_new(
     Ok(code)
 }
 
-// The leaves behind the first ones, this many.
-fn behind(leaves: &[u32], pairs: usize) -> &[u32]
-    ensures { result.now ≡ drop pairs leaves.now }
+// The arguments behind the first ones, this many.
+fn behind(args: &[FormatArgSyntax], pairs: usize) -> &[FormatArgSyntax]
+    ensures { result.now ≡ drop pairs args.now }
 {
-    leaves.get(pairs..).unwrap_or(&[])
+    args.get(pairs..).unwrap_or(&[])
 }
 
-/// Places the code of a call with arguments: a leaf for each argument, and one element of the array
-/// for each pair. The leaves behind the first pairs are statements of their own too.
+/// Places the code of a call with arguments: one field of the tuple for each argument, and one element of the
+/// array for each pair. The arguments behind the first pairs are statements of their own too.
 pub(crate) fn place_with_arguments(
     alloc: Global,
     store: &mut ExpressionStore,
     number: u32,
-    leaves: &[u32],
+    args: &[FormatArgSyntax],
     pairs: usize,
     bytes: Items<u8>,
 ) -> Result<ExprId, LowerError>
-    ensures stands { IfOk result (λ id. Stands store.new id (with_arguments number (arguments_of leaves.now) (numbered_pairs (length leaves.now) pairs) bytes (arguments_of (drop pairs leaves.now)))) }
+    ensures stands { IfOk result (λ id. Stands store.new id (with_arguments number (arguments_of args.now) (numbered_pairs (length args.now) pairs) bytes (arguments_of (drop pairs args.now)))) }
     ensures later { IfOk result (λ id. length store.old.exprs ≤ place_of id) }
-    ensures builds { Builds store.old store.new (2 * length leaves.now + 4 * pairs + length (drop pairs leaves.now) + 9) 2 }
-    ensures full { result ≡ Err LowerError.ArenaFull → Outgrows store.old (2 * length leaves.now + 4 * pairs + length (drop pairs leaves.now) + 9) 2 }
+    ensures builds { Builds store.old store.new (2 * length args.now + 4 * pairs + length (drop pairs args.now) + 9) 2 }
+    ensures full { result ≡ Err LowerError.ArenaFull → Outgrows store.old (2 * length args.now + 4 * pairs + length (drop pairs args.now) + 9) 2 }
 {
-    if leaves.is_empty() {
+    if args.is_empty() {
         let code = place_bare_new(alloc, store, bytes)?;
         return Ok(code);
     }
-    let lets = place_lets(alloc, store, number, leaves, pairs)?;
-    let code = place_behind_lets(alloc, store, number, lets, behind(leaves, pairs), bytes)?;
+    let lets = place_lets(alloc, store, number, args, pairs)?;
+    let code = place_behind_lets(alloc, store, number, lets, behind(args, pairs), bytes)?;
     Ok(code)
 }
 
-// Places the block of leaves as statements and `Arguments::from_str(TEXT)` behind them.
+// Places the block of arguments as statements and `Arguments::from_str(TEXT)` behind them.
 fn place_text_block(
     alloc: Global,
     store: &mut ExpressionStore,
-    leaves: &[u32],
+    args: &[FormatArgSyntax],
     text: Symbol,
 ) -> Result<ExprId, LowerError>
-    ensures stands { IfOk result (λ id. Stands store.new id (Block false (statements (arguments_of leaves.now) (from_str_code text)))) }
+    ensures stands { IfOk result (λ id. Stands store.new id (Block false (statements (arguments_of args.now) (from_str_code text)))) }
     ensures later { IfOk result (λ id. length store.old.exprs ≤ place_of id) }
-    ensures builds { Builds store.old store.new (length leaves.now + 4) 0 }
-    ensures full { result ≡ Err LowerError.ArenaFull → 4_294_967_295 < length store.old.exprs + length leaves.now + 4 }
+    ensures builds { Builds store.old store.new (length args.now + 4) 0 }
+    ensures full { result ≡ Err LowerError.ArenaFull → 4_294_967_295 < length store.old.exprs + length args.now + 4 }
 {
-    let statements = place_leaves(store, Vec::new(alloc), leaves)?;
+    let statements = place_arguments(store, Vec::new(alloc), args)?;
     let code = call_from_str(alloc, store, text)?;
     let block = place_block(store, statements, code, false)?;
     Ok(block)
 }
 
-/// Places the code of a call without a placeholder: each argument, a leaf, as a statement, and the text behind them.
+/// Places the code of a call without a placeholder: each argument as a statement, and the text behind them.
 pub(crate) fn place_text(
     alloc: Global,
     store: &mut ExpressionStore,
-    leaves: &[u32],
+    args: &[FormatArgSyntax],
     text: Symbol,
 ) -> Result<ExprId, LowerError>
-    ensures stands { IfOk result (λ id. Stands store.new id (text_code (arguments_of leaves.now) text)) }
+    ensures stands { IfOk result (λ id. Stands store.new id (text_code (arguments_of args.now) text)) }
     ensures later { IfOk result (λ id. length store.old.exprs ≤ place_of id) }
-    ensures builds { Builds store.old store.new (length leaves.now + 4) 0 }
-    ensures full { result ≡ Err LowerError.ArenaFull → 4_294_967_295 < length store.old.exprs + length leaves.now + 4 }
+    ensures builds { Builds store.old store.new (length args.now + 4) 0 }
+    ensures full { result ≡ Err LowerError.ArenaFull → 4_294_967_295 < length store.old.exprs + length args.now + 4 }
 {
-    if leaves.is_empty() {
+    if args.is_empty() {
         let code = call_from_str(alloc, store, text)?;
         return Ok(code);
     }
-    let code = place_text_block(alloc, store, leaves, text)?;
+    let code = place_text_block(alloc, store, args, text)?;
     Ok(code)
 }

@@ -56,9 +56,11 @@ impl ExprCollector {
     /// Lowers calls under options, and answers one outcome for each, in order.
     ///
     /// A call is off exactly where one of its predicates, each taken by itself, reads false; it then places nothing. The
-    /// code of a `format_args!` evaluates its arguments once each, in order, and then yields a value that means the
-    /// writes of the call's text. A text that has no pieces counts as empty. Older expressions keep index and value,
-    /// after a refusal too.
+    /// code of a well formed `format_args!` evaluates its arguments once each, in order, and then yields a value that
+    /// means the writes of the call's text. A call is well formed where its text has pieces, with as many placeholders
+    /// as there are arguments, and each argument has an expression. Where there is no text with pieces, the code
+    /// evaluates the arguments, if each has an expression, and writes nothing; the text is the value of a string
+    /// literal, and no other template has one. Older expressions keep index and value, after a refusal too.
     ///
     /// # Errors
     ///

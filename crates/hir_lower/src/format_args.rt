@@ -1,21 +1,23 @@
-ghost use Rattle.std.specs.Prelude.{◌≡◌, ◌+◌, ◌*◌, ◌<◌, ◌≤◌, ◌≢◌, length, IfOk, OnErr, IsTrue};
+ghost use Rattle.std.specs.Prelude.{◌≡◌, ◌+◌, ◌*◌, ◌<◌, ◌≤◌, ◌≢◌, length, Some, IfOk, OnErr, IsTrue};
 ghost use Rattle.hir_store.specs.Tree.{is_whole};
 ghost use Rattle.hir_store.specs.Unfolding.{place_of, tree_over};
 ghost use Rattle.hir_store.specs.Store.{Grows, Stands, IsPlaced, PlacesExpr};
+ghost use Rattle.syn_trees.specs.declared.format_call.Template.TheVariants.{Str};
 ghost use Rattle.hir_lower.specs.Code.{from_str_code};
 ghost use Rattle.hir_lower.specs.FormatCode.{text_code};
-ghost use Rattle.hir_lower.specs.ReadTemplate.{IsTemplateOf};
+ghost use Rattle.hir_lower.specs.ReadTemplate.{IsTemplateOf, IsTextRead, IsTemplateOfCall};
 ghost use Rattle.hir_lower.specs.Building.{Builds, Outgrows, arguments_of};
 ghost use Rattle.hir_lower.specs.Lowered.{IsFormatCode, most_of_format};
 
+use crate::LowerError;
 use crate::code::{place_text, place_with_arguments};
 use crate::template_text::{Template, read_template};
-use crate::{FormatCall, LowerError};
 use hir_store::{Expr, ExprId, ExpressionStore, LangFn, LangItem, Literal};
 use la_arena::ArenaError;
 use sqlite_items::Items;
 use std::alloc::Global;
 use sym_core::Symbol;
+use syn_trees::{EscapeError, FormatArgSyntax, FormatCall, StringLit, Template as FormatTemplate};
 
 // The parts of an expression, in a list of their own.
 pub(crate) fn list(alloc: Global, ids: &[ExprId]) -> Result<Items<ExprId>, LowerError>
@@ -71,14 +73,60 @@ pub(crate) fn call_from_str(
     Ok(call)
 }
 
-// Reads the text of a call.
-fn template_of(alloc: Global, f: &FormatCall) -> Result<Option<Template>, LowerError>
-    ensures read { IfOk result (λ found. IsTemplateOf f.now.template found) }
+// The text that a literal stands for, where it stands for one.
+fn literal_text(alloc: Global, literal: &StringLit) -> Result<Option<Symbol>, LowerError>
+    ensures read { IfOk result (λ found. IsTextRead (Some (Str literal.now)) found) }
     ensures memory { result ≢ Err LowerError.ArenaFull }
 {
-    match read_template(alloc, f.template.as_str()) {
+    match literal.value(alloc) {
+        Ok(text) => Ok(Some(text)),
+        Err(EscapeError::Escape) => Ok(None),
+        Err(EscapeError::Memory(refused)) => Err(LowerError::Memory(refused)),
+    }
+}
+
+// The text that a template reaches, where it reaches one.
+fn template_text(alloc: Global, template: &FormatTemplate) -> Result<Option<Symbol>, LowerError>
+    ensures read { IfOk result (λ found. IsTextRead (Some template.now) found) }
+    ensures memory { result ≢ Err LowerError.ArenaFull }
+{
+    match template {
+        FormatTemplate::Str(literal) => literal_text(alloc, literal),
+        FormatTemplate::Macro(_) => Ok(None),
+        FormatTemplate::Other => Ok(None),
+    }
+}
+
+// The text that the template of a call reaches, where there is one.
+fn call_text(alloc: Global, f: &FormatCall) -> Result<Option<Symbol>, LowerError>
+    ensures read { IfOk result (λ found. IsTextRead f.now.template found) }
+    ensures memory { result ≢ Err LowerError.ArenaFull }
+{
+    match &f.template {
+        Some(template) => template_text(alloc, template),
+        None => Ok(None),
+    }
+}
+
+// Reads a text.
+fn read_text(alloc: Global, text: &str) -> Result<Option<Template>, LowerError>
+    ensures read { IfOk result (λ found. IsTemplateOf text.now found) }
+    ensures memory { result ≢ Err LowerError.ArenaFull }
+{
+    match read_template(alloc, text) {
         Ok(found) => Ok(found),
         Err(refused) => Err(LowerError::Memory(refused)),
+    }
+}
+
+// Reads the text of a call. There is nothing to read where its template reaches no text.
+fn template_of(alloc: Global, f: &FormatCall) -> Result<Option<Template>, LowerError>
+    ensures read { IfOk result (λ found. IsTemplateOfCall f.now found) }
+    ensures memory { result ≢ Err LowerError.ArenaFull }
+{
+    match call_text(alloc, f)? {
+        Some(text) => read_text(alloc, text.as_str()),
+        None => Ok(None),
     }
 }
 
@@ -97,16 +145,16 @@ fn symbol_of(alloc: Global, text: &str) -> Result<Symbol, LowerError>
 fn collect_text(
     alloc: Global,
     store: &mut ExpressionStore,
-    leaves: &[u32],
+    args: &[FormatArgSyntax],
     text: &str,
 ) -> Result<ExprId, LowerError>
-    ensures stands { IfOk result (λ id. Stands store.new id (text_code (arguments_of leaves.now) text.now)) }
+    ensures stands { IfOk result (λ id. Stands store.new id (text_code (arguments_of args.now) text.now)) }
     ensures later { IfOk result (λ id. length store.old.exprs ≤ place_of id) }
-    ensures builds { Builds store.old store.new (length leaves.now + 4) 0 }
-    ensures full { result ≡ Err LowerError.ArenaFull → 4_294_967_295 < length store.old.exprs + length leaves.now + 4 }
+    ensures builds { Builds store.old store.new (length args.now + 4) 0 }
+    ensures full { result ≡ Err LowerError.ArenaFull → 4_294_967_295 < length store.old.exprs + length args.now + 4 }
 {
     let text = symbol_of(alloc, text)?;
-    let code = place_text(alloc, store, leaves, text)?;
+    let code = place_text(alloc, store, args, text)?;
     Ok(code)
 }
 
@@ -123,7 +171,7 @@ pub(crate) fn collect_format_args(
     ensures builds { Builds store.old store.new (most_of_format f.now) 2 }
     ensures full { result ≡ Err LowerError.ArenaFull → Outgrows store.old (most_of_format f.now) 2 }
 {
-    let leaves = f.leaves.as_slice();
+    let args = f.args.as_slice();
     match template_of(alloc, f)? {
         Some(
             Template::Bytes {
@@ -132,9 +180,9 @@ pub(crate) fn collect_format_args(
             },
         ) => {
             let bytes = Items::from_vec(bytes);
-            place_with_arguments(alloc, store, fresh, leaves, placeholders, bytes)
+            place_with_arguments(alloc, store, fresh, args, placeholders, bytes)
         }
-        Some(Template::Text(text)) => collect_text(alloc, store, leaves, text.as_str()),
-        None => collect_text(alloc, store, leaves, ""),
+        Some(Template::Text(text)) => collect_text(alloc, store, args, text.as_str()),
+        None => collect_text(alloc, store, args, ""),
     }
 }

@@ -13,7 +13,7 @@ mod template_text;
 #[cfg(test)]
 mod tests;
 
-pub use call::{Call, FormatCall, GatedCall, Outcome};
+pub use call::{Call, GatedCall, Outcome};
 pub use collector::ExprCollector;
 pub use error::LowerError;
 pub use laws::{bytes_decode_once, code_runs_once};

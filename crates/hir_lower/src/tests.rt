@@ -1,34 +1,88 @@
 use super::*;
-use hir_store::{Expr, ExpressionStore, LangFn, LangItem, Literal, Pat, Statement};
+use hir_store::{Expr, ExprId, ExpressionStore, LangFn, LangItem, Literal, Pat, Statement};
 use ra_cfg::{CfgAtom, CfgExpr, CfgOptions};
 use sqlite_items::Items;
 use std::alloc::{AllocError, Global};
 use std::test::Fail;
-use sym_core::{Name, Symbol};
+use sym_core::{AstPtr, Name, Symbol};
+use syn_trees::{FormatArgSyntax, FormatCall, LeafSyntax, MacroCallSrc, StringLit, Template};
 
-// A call of `format_args!` whose predicates are the flags of these names.
-fn format(alloc: Global, flags: &[&str], template: &str) -> Result<GatedCall, AllocError> {
-    let mut cfgs = Items::new(alloc);
-    for flag in flags {
-        cfgs.push(CfgExpr::Atom(CfgAtom::Flag(Symbol::new(alloc, flag)?)))?;
-    }
-    let template = Symbol::new(alloc, template)?;
-    Ok(GatedCall {
-        cfgs,
-        call: Call::Format(FormatCall {
-            template,
-            leaves: Items::new(alloc),
-        }),
-    })
+// Where parts of a call stand does not matter here.
+const SOMEWHERE: AstPtr = AstPtr { node: 0 };
+
+// A string literal of this token; nothing where the token is none.
+fn literal(alloc: Global, token: &str) -> Result<Option<Template>, AllocError> {
+    let Some(literal) = StringLit::new(Symbol::new(alloc, token)?) else {
+        return Ok(None);
+    };
+    Ok(Some(Template::Str(literal)))
 }
 
-// The text that a code of three expressions hands to `Arguments::from_str`.
-fn text_of<'a>(collector: &'a ExprCollector, outcome: &Outcome) -> Option<&'a str> {
+// An argument without a name: an expression of this number, or an absent one.
+fn argument(leaf: Option<u32>) -> FormatArgSyntax {
+    let expr = match leaf {
+        Some(leaf) => Some(LeafSyntax {
+            leaf,
+            ptr: SOMEWHERE,
+        }),
+        None => None,
+    };
+    FormatArgSyntax { name: None, expr }
+}
+
+// Arguments without names.
+fn arguments(alloc: Global, leaves: &[Option<u32>]) -> Result<Items<FormatArgSyntax>, AllocError> {
+    let mut args = Items::new(alloc);
+    for leaf in leaves {
+        args.push(argument(*leaf))?;
+    }
+    Ok(args)
+}
+
+// A call of `format_args!` without predicates.
+fn call(alloc: Global, template: Option<Template>, args: Items<FormatArgSyntax>) -> GatedCall {
+    GatedCall {
+        cfgs: Items::new(alloc),
+        call: Call::Format(FormatCall {
+            template,
+            template_ptr: SOMEWHERE,
+            args,
+            ptr: SOMEWHERE,
+        }),
+    }
+}
+
+// A call of `format_args!` with a literal of this token, whose predicates are the flags of these names.
+fn format(alloc: Global, flags: &[&str], token: &str) -> Result<GatedCall, AllocError> {
+    let mut gated = call(alloc, literal(alloc, token)?, Items::new(alloc));
+    for flag in flags {
+        gated
+            .cfgs
+            .push(CfgExpr::Atom(CfgAtom::Flag(Symbol::new(alloc, flag)?)))?;
+    }
+    Ok(gated)
+}
+
+// A call of `format_args!` with a literal of this token, and with an argument for each of these numbers, absent where there is none.
+fn format_leaves(
+    alloc: Global,
+    token: &str,
+    leaves: &[Option<u32>],
+) -> Result<GatedCall, AllocError> {
+    Ok(call(alloc, literal(alloc, token)?, arguments(alloc, leaves)?))
+}
+
+// The expression that a code is.
+fn code_of<'a>(store: &'a ExpressionStore, outcome: &Outcome) -> Option<&'a Expr> {
     let Outcome::Code(code) = outcome else {
         return None;
     };
-    let store = collector.store();
-    let Expr::Call { callee, args } = store.exprs.get(code.idx())? else {
+    store.exprs.get(code.idx())
+}
+
+// The text that an expression hands to `Arguments::from_str`.
+fn text_in<'a>(store: &'a ExpressionStore, expr: &Expr) -> Option<&'a str> {
+    let Expr::Call { callee, args } = expr else {
         return None;
     };
     let Expr::LangPath(LangItem::FormatArguments, LangFn::FromStr) = store.exprs.get(callee.idx())?
@@ -41,28 +95,65 @@ fn text_of<'a>(collector: &'a ExprCollector, outcome: &Outcome) -> Option<&'a st
     Some(text.as_str())
 }
 
+// The text that a code hands to `Arguments::from_str`.
+fn text_of<'a>(collector: &'a ExprCollector, outcome: &Outcome) -> Option<&'a str> {
+    let store = collector.store();
+    text_in(store, code_of(store, outcome)?)
+}
+
+// The text behind the statements of the block that a code is, where the first of them is this argument.
+fn text_behind<'a>(collector: &'a ExprCollector, outcome: &Outcome, leaf: u32) -> Option<&'a str> {
+    let store = collector.store();
+    let Expr::Block {
+        statements,
+        tail,
+        ..
+    } = code_of(store, outcome)?
+    else {
+        return None;
+    };
+    let Statement::Expr(first) = statements.get(0)? else {
+        return None;
+    };
+    match store.exprs.get(first.idx())? {
+        Expr::Leaf(number) if *number == leaf => text_in(store, store.exprs.get((*tail)?.idx())?),
+        _ => None,
+    }
+}
+
 #[test]
 fn lowers_each_text(rt: HostRuntime) -> Result<(), Fail> {
     let alloc = rt.alloc();
     let cases = [
-        ("hi", "hi"),
-        ("", ""),
-        ("{{}}", "{}"),
-        ("100% {{é}}", "100% {é}"),
+        (r#""hi""#, "hi"),
+        (r#""""#, ""),
+        (r#""{{}}""#, "{}"),
+        (r#""100% {{é}}""#, "100% {é}"),
+        // An escape is replaced before the text is read, and a raw literal has none.
+        (r#""a\x41\n""#, "aA\n"),
+        (r#""\u{7b}{""#, "{"),
+        (r##"r"a\q""##, "a\\q"),
+        (r###"r#"{{"}}"#"###, "{\"}"),
         // These have no pieces, and count as empty.
-        ("{", ""),
-        ("a}", ""),
-        ("}{", ""),
+        (r#""{""#, ""),
+        (r#""a}""#, ""),
+        (r#""}{""#, ""),
+        // `\q` is no escape: no text is reached.
+        (r#""\q""#, ""),
     ];
     let options = CfgOptions::new(alloc)?;
-    for (template, text) in cases {
+    for (token, text) in cases {
+        assert!(rt;
+            literal(alloc, token)?.is_some(),
+            "{token} is a string token"
+        );
         let mut collector = ExprCollector::new(alloc);
-        let outcomes = collector.collect_gated(alloc, &[format(alloc, &[], template)?], &options)?;
-        assert_eq!(rt; outcomes.len(), 1, "one outcome for {template}");
+        let outcomes = collector.collect_gated(alloc, &[format(alloc, &[], token)?], &options)?;
+        assert_eq!(rt; outcomes.len(), 1, "one outcome for {token}");
         assert_eq!(rt;
             text_of(&collector, &outcomes[0]),
             Some(text),
-            "the text of {template}"
+            "the text of {token}"
         );
     }
     Ok(())
@@ -76,10 +167,10 @@ fn answers_the_calls_in_order(rt: HostRuntime) -> Result<(), Fail> {
     let mut collector = ExprCollector::new(alloc);
     assert!(rt; collector.collect_gated(alloc, &[], &options)?.is_empty());
     let calls = [
-        format(alloc, &["a"], "x")?,
-        format(alloc, &["b"], "q")?,
-        format(alloc, &["a", "b"], "q")?,
-        format(alloc, &["true", "a"], "y")?,
+        format(alloc, &["a"], r#""x""#)?,
+        format(alloc, &["b"], r#""q""#)?,
+        format(alloc, &["a", "b"], r#""q""#)?,
+        format(alloc, &["true", "a"], r#""y""#)?,
     ];
     let outcomes = collector.collect_gated(alloc, &calls, &options)?;
     assert_eq!(rt; outcomes.len(), 4);
@@ -90,16 +181,6 @@ fn answers_the_calls_in_order(rt: HostRuntime) -> Result<(), Fail> {
     // A call that is off places nothing.
     assert_eq!(rt; collector.store().exprs.len(), 6);
     Ok(())
-}
-
-// A call of `format_args!` with a leaf for each of these numbers.
-fn format_leaves(alloc: Global, template: &str, leaves: &[u32]) -> Result<GatedCall, AllocError> {
-    let template = Symbol::new(alloc, template)?;
-    let leaves = Items::from_slice(alloc, leaves)?;
-    Ok(GatedCall {
-        cfgs: Items::new(alloc),
-        call: Call::Format(FormatCall { template, leaves }),
-    })
 }
 
 // The name that a `let` binds.
@@ -113,11 +194,8 @@ fn name_of<'a>(store: &'a ExpressionStore, statement: &Statement) -> Option<&'a 
 
 // The name of a `let` of the block that a code is.
 fn let_name<'a>(collector: &'a ExprCollector, outcome: &Outcome, place: usize) -> Option<&'a Name> {
-    let Outcome::Code(code) = outcome else {
-        return None;
-    };
     let store = collector.store();
-    let Expr::Block { statements, .. } = store.exprs.get(code.idx())? else {
+    let Expr::Block { statements, .. } = code_of(store, outcome)? else {
         return None;
     };
     name_of(store, statements.get(place)?)
@@ -129,9 +207,9 @@ fn numbers_the_names_of_calls_with_arguments(rt: HostRuntime) -> Result<(), Fail
     let options = CfgOptions::new(alloc)?;
     let mut collector = ExprCollector::new(alloc);
     let calls = [
-        format_leaves(alloc, "x{}y{{", &[1])?,
-        format_leaves(alloc, "plain", &[])?,
-        format_leaves(alloc, "{}{}", &[7, 7])?,
+        format_leaves(alloc, r#""x{}y{{""#, &[Some(1)])?,
+        format_leaves(alloc, r#""plain""#, &[])?,
+        format_leaves(alloc, r#""{}{}""#, &[Some(7), Some(7)])?,
     ];
     let outcomes = collector.collect_gated(alloc, &calls, &options)?;
     assert_eq!(rt; outcomes.len(), 3);
@@ -146,20 +224,114 @@ fn numbers_the_names_of_calls_with_arguments(rt: HostRuntime) -> Result<(), Fail
     Ok(())
 }
 
-// A text of so many placeholders.
-fn placeholders(alloc: Global, count: usize) -> Result<String, AllocError> {
-    let mut text = String::new(alloc);
-    for _ in 0..count {
-        text.push_str("{}")?;
+// The parts of the tuple that the first `let` of a code binds.
+fn tuple_of<'a>(store: &'a ExpressionStore, outcome: &Outcome) -> Option<&'a [ExprId]> {
+    let Expr::Block { statements, .. } = code_of(store, outcome)? else {
+        return None;
+    };
+    let Statement::Let { initializer, .. } = statements.get(0)? else {
+        return None;
+    };
+    match store.exprs.get(initializer.idx())? {
+        Expr::Tuple(parts) => Some(parts.as_slice()),
+        _ => None,
     }
-    Ok(text)
 }
 
-// So many leaves.
-fn leaves(alloc: Global, count: u32) -> Result<Vec<u32>, AllocError> {
+// What a reference refers to: an expression by its number, or an absent one.
+#[derive(Clone, Copy, Debug, PartialEq, Eq)]
+enum Referred {
+    Leaf(u32),
+    Missing,
+}
+
+// What a part of the tuple of a code refers to.
+fn reference_at(collector: &ExprCollector, outcome: &Outcome, place: usize) -> Option<Referred> {
+    let store = collector.store();
+    let Expr::Ref(of) = store
+        .exprs
+        .get(tuple_of(store, outcome)?.get(place)?.idx())?
+    else {
+        return None;
+    };
+    match store.exprs.get(of.idx())? {
+        Expr::Leaf(number) => Some(Referred::Leaf(*number)),
+        Expr::Missing => Some(Referred::Missing),
+        _ => None,
+    }
+}
+
+#[test]
+fn refers_to_each_argument(rt: HostRuntime) -> Result<(), Fail> {
+    let alloc = rt.alloc();
+    let options = CfgOptions::new(alloc)?;
+    let mut args = arguments(alloc, &[Some(4), None])?;
+    let mut named = argument(Some(5));
+    named.name = Some(Symbol::new(alloc, "n")?);
+    args.push(named)?;
+    let mut collector = ExprCollector::new(alloc);
+    let calls = [call(alloc, literal(alloc, r#""{}{}{}""#)?, args)];
+    let outcomes = collector.collect_gated(alloc, &calls, &options)?;
+    assert_eq!(rt; outcomes.len(), 1);
+    assert_eq!(rt;
+        reference_at(&collector, &outcomes[0], 0),
+        Some(Referred::Leaf(4))
+    );
+    assert_eq!(rt;
+        reference_at(&collector, &outcomes[0], 1),
+        Some(Referred::Missing)
+    );
+    assert_eq!(rt;
+        reference_at(&collector, &outcomes[0], 2),
+        Some(Referred::Leaf(5))
+    );
+    assert_eq!(rt; reference_at(&collector, &outcomes[0], 3), None);
+    assert_eq!(rt; collector.store().exprs.len(), 27);
+    Ok(())
+}
+
+#[test]
+fn lowers_arguments_without_a_text(rt: HostRuntime) -> Result<(), Fail> {
+    let alloc = rt.alloc();
+    let options = CfgOptions::new(alloc)?;
+    let path = Some(Symbol::new(alloc, "concat")?);
+    let calls = [
+        call(alloc, None, arguments(alloc, &[Some(3)])?),
+        call(
+            alloc,
+            Some(Template::Macro(MacroCallSrc { path })),
+            arguments(alloc, &[Some(3)])?,
+        ),
+        call(alloc, Some(Template::Other), arguments(alloc, &[Some(3)])?),
+        format_leaves(alloc, r#""\q""#, &[Some(3)])?,
+        format_leaves(alloc, r#""{""#, &[Some(3)])?,
+    ];
+    let mut collector = ExprCollector::new(alloc);
+    let outcomes = collector.collect_gated(alloc, &calls, &options)?;
+    assert_eq!(rt; outcomes.len(), 5);
+    for outcome in outcomes.as_slice() {
+        assert_eq!(rt; text_behind(&collector, outcome, 3), Some(""));
+    }
+    assert_eq!(rt; collector.store().exprs.len(), 25);
+    Ok(())
+}
+
+// The token of a text of so many placeholders.
+fn placeholders(alloc: Global, count: usize) -> Result<String, AllocError> {
+    let mut token = String::new(alloc);
+    token.push('"')?;
+    for _ in 0..count {
+        token.push_str("{}")?;
+    }
+    token.push('"')?;
+    Ok(token)
+}
+
+// So many arguments.
+fn leaves(alloc: Global, count: u32) -> Result<Vec<Option<u32>>, AllocError> {
     let mut leaves = Vec::new(alloc);
     for leaf in 0..count {
-        leaves.push(leaf)?;
+        leaves.push(Some(leaf))?;
     }
     Ok(leaves)
 }
@@ -168,10 +340,10 @@ fn leaves(alloc: Global, count: u32) -> Result<Vec<u32>, AllocError> {
 fn lowers_a_million_placeholders(rt: HostRuntime) -> Result<(), Fail> {
     let alloc = rt.alloc();
     let options = CfgOptions::new(alloc)?;
-    let text = placeholders(alloc, 1_000_000)?;
+    let token = placeholders(alloc, 1_000_000)?;
     let leaves = leaves(alloc, 1_000_000)?;
     let mut collector = ExprCollector::new(alloc);
-    let call = format_leaves(alloc, text.as_str(), leaves.as_slice())?;
+    let call = format_leaves(alloc, token.as_str(), leaves.as_slice())?;
     let outcomes = collector.collect_gated(alloc, &[call], &options)?;
     assert_eq!(rt; outcomes.len(), 1);
     assert_eq!(rt; collector.store().exprs.len(), 6_000_009);

@@ -1,11 +1,12 @@
 -- Options and calls item by item: how the reading begins, goes on, ends and stops.
-use Rattle.std.proofs.Common.{◌≡◌, ℕ, ◌≤◌, ◌<◌, List, [], ◌∷◌, ◌++◌, length, take, drop, count_by, nat_eq, Some, None, refl, ap, ◌∙◌, sym, subst, append_assoc, length-append, suc, arith}
+use Rattle.std.proofs.Common.{◌≡◌, ℕ, ◌+◌, ◌≤◌, ◌<◌, List, [], ◌∷◌, ◌++◌, length, take, drop, count_by, nat_eq, Some, None, refl, ap, ◌∙◌, sym, subst, append_assoc, length-append, suc, arith}
 use Rattle.std.specs.Str.{IsUtf8, chars, encode_utf8_all}
 use Rattle.std.proofs.lemmas.List.{append-nil, take_at}
 use Rattle.std.proofs.lemmas.Str.{encodes-chars, chars-append, chars_from_encodes, IsUtf8-take}
 use Rattle.text_cut.specs.Runs.{size}
 use Rattle.text_cut.specs.Place.{Place, place}
 use Rattle.text_cut.specs.Reading.{Spelled, texts, items, Reach}
+use Rattle.text_cut.proofs.Lists.{longer_begins}
 use Rattle.text_cut.proofs.Sizes.{size_bytes, front_bytes, cut_at}
 use Rattle.text_cut.proofs.Pieces.{furthest, one_reading}
 use Rattle.text_cut.proofs.Longer.{spelled_before, reach_longer}
@@ -15,10 +16,10 @@ use Rattle.ra_cfg.specs.Options.{Options, with_flag, only_true}
 use Rattle.hir_lower.specs.declared.call.GatedCall.{GatedCall}
 use Rattle.hir_lower.specs.declared.call.Call.TheVariants.{Format}
 use Rattle.script.specs.declared.reading.Reading.{Reading}
-use Rattle.script.specs.Script.{Item, Blank, OptItem, CfgItem, FormatItem, IsItem, AreItems, AreCalls, BreaksAt, calls_behind, calls_of, options_with, options_of}
+use Rattle.script.specs.Script.{Item, Blank, OptItem, CfgItem, FormatItem, IsItem, AreItems, AreCalls, BreaksAt, format_call, calls_behind, calls_of, options_with, options_of}
 use Rattle.script.specs.ReadItem.{item_at}
 use Rattle.script.specs.ReadCalls.{no_state, waiting_behind, GoesOn, IsEmpty, HasRead, ReadSoFar, StopsBehind, IsValidFront}
-use Rattle.script.proofs.Items.{items_read, steps_by, ignores_rest}
+use Rattle.script.proofs.Items.{items_read, steps_by, ignores_rest, item_further}
 
 -- the options of items and of more items
 options_more : (o : Options) (values more : List Item) → options_with o (values ++ more) ≡ options_with (options_with o values) more
@@ -26,7 +27,7 @@ options_more o [] more = refl
 options_more o (Blank ∷ values) more = options_more o values more
 options_more o (OptItem name ∷ values) more = options_more (with_flag o name) values more
 options_more o (CfgItem predicate ∷ values) more = options_more o values more
-options_more o (FormatItem template leaves ∷ values) more = options_more o values more
+options_more o (FormatItem token leaves ∷ values) more = options_more o values more
 
 -- the predicates that wait behind items and more items
 waiting_more : (waiting : List CfgExpr) (values more : List Item) → waiting_behind waiting (values ++ more) ≡ waiting_behind (waiting_behind waiting values) more
@@ -34,25 +35,55 @@ waiting_more waiting [] more = refl
 waiting_more waiting (Blank ∷ values) more = waiting_more waiting values more
 waiting_more waiting (OptItem name ∷ values) more = waiting_more waiting values more
 waiting_more waiting (CfgItem predicate ∷ values) more = waiting_more (waiting ++ predicate ∷ []) values more
-waiting_more waiting (FormatItem template leaves ∷ values) more = waiting_more [] values more
+waiting_more waiting (FormatItem token leaves ∷ values) more = waiting_more [] values more
 
 -- the calls of items and of more items
-calls_more : (waiting : List CfgExpr) (values more : List Item) → calls_behind waiting (values ++ more) ≡ calls_behind waiting values ++ calls_behind (waiting_behind waiting values) more
-calls_more waiting [] more = refl
-calls_more waiting (Blank ∷ values) more = calls_more waiting values more
-calls_more waiting (OptItem name ∷ values) more = calls_more waiting values more
-calls_more waiting (CfgItem predicate ∷ values) more = calls_more (waiting ++ predicate ∷ []) values more
-calls_more waiting (FormatItem template leaves ∷ values) more =
-    ap (λ l. record { cfgs = waiting; call = Format (record { template = template; leaves = leaves }) } ∷ l) (calls_more [] values more)
+calls_more : (number : ℕ) (waiting : List CfgExpr) (values more : List Item) → calls_behind number waiting (values ++ more) ≡ calls_behind number waiting values ++ calls_behind (length (calls_behind number waiting values) + number) (waiting_behind waiting values) more
+calls_more number waiting [] more = ap (λ n. calls_behind n waiting more) (same number)
+  where
+    same : (n : ℕ) → n ≡ 0 + n
+    same n = omega arith
+calls_more number waiting (Blank ∷ values) more = calls_more number waiting values more
+calls_more number waiting (OptItem name ∷ values) more = calls_more number waiting values more
+calls_more number waiting (CfgItem predicate ∷ values) more = calls_more number (waiting ++ predicate ∷ []) values more
+calls_more number waiting (FormatItem token leaves ∷ values) more =
+    let call : GatedCall = record { cfgs = waiting; call = Format (format_call number token leaves) } in
+    let calls = calls_behind (suc number) [] values in
+    ap (λ l. call ∷ l) (calls_more (suc number) [] values more ∙ ap (λ n. calls ++ calls_behind n (waiting_behind [] values) more) (next (length calls) number))
+  where
+    next : (count n : ℕ) → count + suc n ≡ suc count + n
+    next count n = omega arith
 
 -- what items and more items give
 has_read_more : (old new : Reading) (values more : List Item) → HasRead old values → GoesOn old more new → HasRead new (values ++ more)
 has_read_more old new values more has goes = record {
   options = goes.options ∙ (ap (λ o. options_with o more) has.options ∙ sym (options_more only_true values more));
   waiting = goes.waiting ∙ (ap (λ w. waiting_behind w more) has.waiting ∙ sym (waiting_more [] values more));
-  calls = goes.calls ∙ (ap (λ l. l ++ calls_behind old.waiting more) has.calls
-      ∙ (ap (λ w. calls_behind [] values ++ calls_behind w more) has.waiting ∙ sym (calls_more [] values more)));
+  calls = goes.calls ∙ (ap (λ l. l ++ calls_behind (length l) old.waiting more) has.calls
+      ∙ (ap (λ w. calls_of values ++ calls_behind (length (calls_of values)) w more) has.waiting
+      ∙ (ap (λ n. calls_of values ++ calls_behind n (waiting_behind [] values) more) (same (length (calls_of values))) ∙ sym (calls_more 0 [] values more))));
 }
+  where
+    same : (n : ℕ) → n ≡ n + 0
+    same n = omega arith
+
+-- an item gives one call at most
+one_call : (number : ℕ) (waiting : List CfgExpr) (v : Item) → length (calls_behind number waiting (v ∷ [])) ≤ 1
+one_call number waiting Blank = omega arith
+one_call number waiting (OptItem name) = omega arith
+one_call number waiting (CfgItem predicate) = omega arith
+one_call number waiting (FormatItem token leaves) = omega arith
+
+-- there are no more calls than bytes were passed
+pub few_calls : (old new : Reading) (here : Place) (v : Item) (e : Place) → length old.calls.items ≤ here.at → item_at here ≡ Some (v, e) → GoesOn old (v ∷ []) new → length new.calls.items ≤ e.at
+few_calls old new here v e few found goes = omega (
+  arith,
+  few,
+  ap length goes.calls,
+  length-append old.calls.items (calls_behind (length old.calls.items) old.waiting (v ∷ [])),
+  one_call (length old.calls.items) old.waiting v,
+  item_further here (v, e) found,
+)
 
 -- nothing is read yet
 pub reading_begins : (text : List ℕ) (reading : Reading) → IsEmpty reading → ReadSoFar text reading (place 0 text)
@@ -94,20 +125,11 @@ items_size : (bytes : List ℕ) (spelled : List (Spelled Item)) → AreItems byt
 items_size bytes spelled are =
     ap length (sym (encodes-chars bytes are.utf8)) ∙ (size_bytes (chars bytes) ∙ ap size (are.reading.there ∙ append-nil (texts spelled)))
 
--- of two fronts of the same bytes the longer begins with the shorter
-shorter_front : (text rest other left : List ℕ) → text ++ rest ≡ other ++ left → length other ≤ length text → text ≡ other ++ drop (length other) text
-shorter_front text rest [] left same fits = refl
-shorter_front [] rest (b ∷ other) left same fits = absurd (omega arith)
-shorter_front (a ∷ text) rest (b ∷ other) left same fits =
-    let more : text ≡ other ++ drop (length other) text = shorter_front text rest other left (ap (λ l. drop 1 l) same) (omega arith) in
-    let head : a ≡ b = cc in
-    λ i. head i ∷ more i
-
 -- items in front of the bytes reach no further than where the reader stops
 items_within : (bytes text : List ℕ) (reading : Reading) (at : ℕ) → IsValidFront bytes text → StopsBehind (chars text) reading at → (other left : List ℕ) (others : List (Spelled Item)) → bytes ≡ other ++ left → AreItems other others → length other ≤ at
 items_within bytes text reading at valid stops other left others there are =
     let so_far = stops.so_far.so_far in
-    let split : text ≡ other ++ drop (length other) text = shorter_front text valid.rest other left (sym valid.there ∙ there) (valid.longest other left are.utf8 there) in
+    let split : text ≡ other ++ drop (length other) text = longer_begins text valid.rest other left (sym valid.there ∙ there) (valid.longest other left are.utf8 there) in
     let parts : chars text ≡ chars other ++ chars (drop (length other) text) = ap (λ l. chars l) split ∙ chars-append other (drop (length other) text) are.utf8 in
     let reach : Reach IsItem (chars text) others (chars (drop (length other) text)) = subst (λ l. Reach IsItem l others (chars (drop (length other) text))) (sym parts)
     (reach_longer IsItem ignores_rest (chars other) others [] (chars (drop (length other) text)) are.reading) in

@@ -1,9 +1,10 @@
 -- Leaves: what stands in a text is found there, and what is found stands there.
-use Rattle.std.proofs.Common.{◌≡◌, ℕ, zero, suc, ◌+◌, ◌≤◌, ◌<◌, true, false, cond, List, [], ◌∷◌, ◌++◌, length, Option, Some, None, refl, ap, ◌∙◌, sym, subst, append_assoc, append-nil, length-append, nat_le, arith}
+use Rattle.std.proofs.Common.{◌≡◌, ℕ, zero, suc, ◌+◌, ◌≤◌, ◌<◌, true, false, cond, List, [], ◌∷◌, ◌++◌, length, map, Option, Some, None, refl, ap, ◌∙◌, sym, subst, append_assoc, append-nil, length-append, nat_le, arith}
 use Rattle.std.specs.Option.{option_map, option_and_then}
 use Rattle.std.specs.Str.Parse.{digits_value}
 use Rattle.std.specs.Char.{is_ascii_digit}
 use Rattle.std.proofs.lemmas.Bool.Decides.{nat_tests}
+use Rattle.std.proofs.lemmas.List.{map-append}
 use Rattle.std.proofs.lemmas.Option.{option_and_then_some, same_Some}
 use Rattle.text_cut.specs.Runs.{starts, front, size, AllPass, is_blank}
 use Rattle.text_cut.specs.Place.{Place, place, past, Took}
@@ -12,17 +13,11 @@ use Rattle.text_cut.proofs.Sizes.{size_append}
 use Rattle.text_cut.proofs.Runs.{front_of, front_is}
 use Rattle.text_cut.proofs.Rules.{took_none, took_both, past_is}
 use Rattle.text_cut.proofs.Options.{mapped, chosen, none_some}
-use Rattle.script.specs.Script.{continues_word, IsLeaf}
-use Rattle.script.specs.ReadItem.{past_spaced, number_of, number_behind, number_at, leaf_at, leaf_then, leaves_within, leaves_at}
+use Rattle.syn_trees.specs.declared.format_call.FormatArgSyntax.{FormatArgSyntax}
+use Rattle.script.specs.Script.{continues_word, argument, IsLeaf}
+use Rattle.script.specs.ReadItem.{leaf_of, AreArguments, past_spaced, number_of, number_behind, number_at, leaf_at, leaf_then, leaves_within, leaves_at}
+use Rattle.script.proofs.Characters.{digits_end}
 use Rattle.script.proofs.Strings.{RunAndWord, past_run, run_then, run_then_is}
-
--- what goes on no word is no digit
-no_digit : (c : ℕ) → continues_word c ≡ false → is_ascii_digit c ≡ false
-no_digit c e = grind (arith, nat_tests)
-
-digits_end : (rest : List ℕ) → starts continues_word rest ≡ false → starts is_ascii_digit rest ≡ false
-digits_end [] e = refl
-digits_end (c ∷ rest) e = no_digit c e
 
 -- digits of a number of 32 bits write it
 pub number_of_found : (digits : List ℕ) → 0 < length digits → digits_value 10 digits ≤ 4294967295 → number_of digits ≡ Some (digits_value 10 digits)
@@ -186,7 +181,7 @@ pub leaves_begin : (start : Place) → LeavesSoFar start [] start
 leaves_begin start = record { most = length start.left; enough = omega arith; same = refl }
 
 -- one more leaf is read
-pub leaves_more : (start : Place) (leaves : List ℕ) (here : Place) (n : ℕ) (e : Place) → Some (n, e) ≡ leaf_at here → LeavesSoFar start leaves here → LeavesSoFar start (leaves ++ n ∷ []) e
+leaves_more : (start : Place) (leaves : List ℕ) (here : Place) (n : ℕ) (e : Place) → Some (n, e) ≡ leaf_at here → LeavesSoFar start leaves here → LeavesSoFar start (leaves ++ n ∷ []) e
 leaves_more start leaves here n e found so_far = by_most so_far.most so_far.enough so_far.same
   where
     is : LeafIs here (n, e)
@@ -200,6 +195,18 @@ leaves_more start leaves here n e found so_far = by_most so_far.most so_far.enou
       same = same ∙ (ap (λ (o : Option (ℕ × Place)). (leaves ++ (leaf_then o (λ e. leaves_within most e) here).0, (leaf_then o (λ e. leaves_within most e) here).1)) (sym found)
           ∙ ap (λ l. (l, (leaves_within most e).1)) (sym (append_assoc leaves (n ∷ []) (leaves_within most e).0)));
     }
+
+-- arguments of a call, and one more
+pub arguments_more : (number : ℕ) (args : List FormatArgSyntax) (leaf : ℕ) → AreArguments number args → AreArguments number (args ++ argument number leaf ∷ [])
+arguments_more number args leaf are =
+    ap (λ l. l ++ argument number leaf ∷ []) are
+    ∙ (sym (map-append (argument number) (map leaf_of args) (leaf ∷ []))
+    ∙ ap (λ l. map (argument number) l) (sym (map-append leaf_of args (argument number leaf ∷ []))))
+
+-- one more leaf is read as an argument
+pub leaves_read : (start : Place) (args : List FormatArgSyntax) (here : Place) (number n : ℕ) (e : Place) → Some (n, e) ≡ leaf_at here → LeavesSoFar start (map leaf_of args) here → LeavesSoFar start (map leaf_of (args ++ argument number n ∷ [])) e
+leaves_read start args here number n e found so_far =
+    subst (λ l. LeavesSoFar start l e) (sym (map-append leaf_of args (argument number n ∷ []))) (leaves_more start (map leaf_of args) here n e found so_far)
 
 -- no more leaf is read
 pub leaves_end : (start : Place) (leaves : List ℕ) (here : Place) → leaf_at here ≡ None → LeavesSoFar start leaves here → (leaves, here) ≡ leaves_at start

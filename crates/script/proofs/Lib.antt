@@ -1,3 +1,4 @@
+pub mod Characters
 pub mod Strings
 pub mod Placeholders
 pub mod Leaves

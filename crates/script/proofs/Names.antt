@@ -2,84 +2,59 @@
 use Rattle.std.proofs.Common.{◌≡◌, ℕ, ◌+◌, ◌<◌, true, false, cond, List, [], ◌∷◌, ◌++◌, length, Some, None, refl, ap, ◌∙◌, subst, append_assoc, arith}
 use Rattle.std.specs.Option.{option_map, option_and_then}
 use Rattle.std.specs.Str.{encode_utf8_all}
-use Rattle.std.proofs.lemmas.Bool.Decides.{nat_tests}
 use Rattle.std.proofs.lemmas.Option.{option_and_then_some, same_Some}
 use Rattle.text_cut.specs.Runs.{starts, front, size, AllPass, is_blank}
 use Rattle.text_cut.specs.Place.{Place, place, past, Took}
 use Rattle.text_cut.proofs.Runs.{front_of, front_is}
 use Rattle.text_cut.proofs.Rules.{took_both, past_is}
 use Rattle.text_cut.proofs.Options.{mapped, chosen, none_some}
-use Rattle.script.specs.Script.{begins_word, continues_word, IsWordLine}
+use Rattle.script.specs.Script.{begins_word, continues_word, IsWord, IsWordLine}
 use Rattle.script.specs.ReadItem.{past_line, word_at, spaced_word_at, name_behind, name_at}
+use Rattle.script.proofs.Characters.{word_ends, word_begins, word_continues, blanks_end, begins_continues}
 use Rattle.script.proofs.Strings.{RunAndWord, past_run, run_then, run_then_is}
-
--- a blank goes on no word
-pub blank_ends : (c : ℕ) → is_blank c ≡ true → continues_word c ≡ false
-blank_ends c e = grind (arith, nat_tests)
-
--- what begins a word goes on one
-begins_continues : (c : ℕ) → begins_word c ≡ true → continues_word c ≡ true
-begins_continues c e = grind (arith, nat_tests)
-
--- what begins a word is no blank
-begins_plain : (c : ℕ) → begins_word c ≡ true → is_blank c ≡ false
-begins_plain c e = grind (arith, nat_tests)
-
--- a word ends in front of the end of its line
-word_ends : (after rest : List ℕ) → AllPass is_blank after → starts continues_word (after ++ 10 ∷ rest) ≡ false
-word_ends [] rest are = refl
-word_ends (c ∷ after) rest are = blank_ends c are.0
-
-word_begins : (word rest : List ℕ) → starts begins_word word ≡ true → starts begins_word (word ++ rest) ≡ true
-word_begins [] rest e = absurd (cc)
-word_begins (c ∷ word) rest e = e
-
-blanks_end : (word rest : List ℕ) → starts begins_word word ≡ true → starts is_blank (word ++ rest) ≡ false
-blanks_end [] rest e = absurd (cc)
-blanks_end (c ∷ word) rest e = begins_plain c e
 
 blanks_begin : (blanks rest : List ℕ) → 0 < length blanks → AllPass is_blank blanks → starts is_blank (blanks ++ rest) ≡ true
 blanks_begin [] rest some are = absurd (omega arith)
 blanks_begin (c ∷ blanks) rest some are = are.0
 
 -- a word is found
-word_found : (word after rest : List ℕ) (at : ℕ) → starts begins_word word ≡ true → AllPass continues_word word → AllPass is_blank after → word_at (place at (word ++ (after ++ 10 ∷ rest))) ≡ Some (encode_utf8_all word, place (at + size word) (after ++ 10 ∷ rest))
-word_found word after rest at begins continues ends =
+word_found : (word after rest : List ℕ) (at : ℕ) → IsWord word → AllPass is_blank after → word_at (place at (word ++ (after ++ 10 ∷ rest))) ≡ Some (encode_utf8_all word, place (at + size word) (after ++ 10 ∷ rest))
+word_found word after rest at is ends =
     let stops : starts continues_word (after ++ 10 ∷ rest) ≡ false = word_ends after rest ends in
-    ap (λ b. cond b (Some (encode_utf8_all (front continues_word (word ++ (after ++ 10 ∷ rest))), past continues_word (place at (word ++ (after ++ 10 ∷ rest))))) None) (word_begins word (after ++ 10 ∷ rest) begins)
+    let continues : AllPass continues_word word = word_continues word is in
+    ap (λ b. cond b (Some (encode_utf8_all (front continues_word (word ++ (after ++ 10 ∷ rest))), past continues_word (place at (word ++ (after ++ 10 ∷ rest))))) None) (word_begins word (after ++ 10 ∷ rest) is)
     ∙ (ap (λ l. Some (encode_utf8_all l, past continues_word (place at (word ++ (after ++ 10 ∷ rest))))) (front_of continues_word word (after ++ 10 ∷ rest) (record { pass = continues; stops = stops }))
     ∙ ap (λ p. Some (encode_utf8_all word, p)) (past_run continues_word word (after ++ 10 ∷ rest) at continues stops))
 
 -- a word is found behind blanks
-spaced_found : (between word after rest : List ℕ) (at : ℕ) → 0 < length between → AllPass is_blank between → starts begins_word word ≡ true → AllPass continues_word word → AllPass is_blank after → spaced_word_at (place at (between ++ (word ++ (after ++ 10 ∷ rest)))) ≡ Some (encode_utf8_all word, place ((at + size between) + size word) (after ++ 10 ∷ rest))
-spaced_found between word after rest at apart blanks begins continues ends =
+spaced_found : (between word after rest : List ℕ) (at : ℕ) → 0 < length between → AllPass is_blank between → IsWord word → AllPass is_blank after → spaced_word_at (place at (between ++ (word ++ (after ++ 10 ∷ rest)))) ≡ Some (encode_utf8_all word, place ((at + size between) + size word) (after ++ 10 ∷ rest))
+spaced_found between word after rest at apart blanks is ends =
     ap (λ b. cond b (word_at (past is_blank (place at (between ++ (word ++ (after ++ 10 ∷ rest)))))) None) (blanks_begin between (word ++ (after ++ 10 ∷ rest)) apart blanks)
-    ∙ (ap (λ p. word_at p) (past_run is_blank between (word ++ (after ++ 10 ∷ rest)) at blanks (blanks_end word (after ++ 10 ∷ rest) begins))
-    ∙ word_found word after rest (at + size between) begins continues ends)
+    ∙ (ap (λ p. word_at p) (past_run is_blank between (word ++ (after ++ 10 ∷ rest)) at blanks (blanks_end word (after ++ 10 ∷ rest) is))
+    ∙ word_found word after rest (at + size between) is ends)
 
 -- a word is found behind its keyword
-pub name_found : (between word after rest : List ℕ) (at : ℕ) → 0 < length between → AllPass is_blank between → starts begins_word word ≡ true → AllPass continues_word word → AllPass is_blank after → name_at (place at (between ++ (word ++ (after ++ 10 ∷ rest)))) ≡ Some (encode_utf8_all word, place (((at + size between) + size word) + size (after ++ 10 ∷ [])) rest)
-name_found between word after rest at apart blanks begins continues ends =
-    ap (λ o. option_and_then name_behind o) (spaced_found between word after rest at apart blanks begins continues ends)
+pub name_found : (between word after rest : List ℕ) (at : ℕ) → 0 < length between → AllPass is_blank between → IsWord word → AllPass is_blank after → name_at (place at (between ++ (word ++ (after ++ 10 ∷ rest)))) ≡ Some (encode_utf8_all word, place (((at + size between) + size word) + size (after ++ 10 ∷ [])) rest)
+name_found between word after rest at apart blanks is ends =
+    ap (λ o. option_and_then name_behind o) (spaced_found between word after rest at apart blanks is ends)
     ∙ ap (λ o. option_map (λ e. (encode_utf8_all word, e)) o) (run_then is_blank (10 ∷ []) after rest ((at + size between) + size word) ends refl)
 
 -- a word stands between two places
 record WordIs (here : Place) (r : List ℕ × Place) : Type 0 where
   word : List ℕ
-  begins : starts begins_word word ≡ true
-  continues : AllPass continues_word word
+  is : IsWord word
   value : r.0 ≡ encode_utf8_all word
   took : Took here r.1 word
 
-front_begins : (cs : List ℕ) → starts begins_word cs ≡ true → starts begins_word (front continues_word cs) ≡ true
-front_begins [] e = e
-front_begins (c ∷ cs) e = rw (begins_continues c e) e
+front_word : (cs : List ℕ) → starts begins_word cs ≡ true → IsWord (front continues_word cs)
+front_word [] e = absurd (cc)
+front_word (c ∷ cs) e = rw (begins_continues c e) (e, (front_is continues_word cs).pass)
 
 -- where a word is found, it stands
 word_is : (here : Place) (r : List ℕ × Place) → word_at here ≡ Some r → WordIs here r
 word_is here r found = chosen (starts begins_word here.left) (Some (encode_utf8_all (front continues_word here.left), past continues_word here)) None (Some r) found
     (λ begins same. subst (λ z. WordIs here z) (same_Some _ _ same)
-    (record { word = front continues_word here.left; begins = front_begins here.left begins; continues = (front_is continues_word here.left).pass; value = refl; took = past_is continues_word here }))
+    (record { word = front continues_word here.left; is = front_word here.left begins; value = refl; took = past_is continues_word here }))
     (λ other none. absurd (none_some r none))
 
 -- a word with the blanks in front of it stands between two places
@@ -88,8 +63,7 @@ record SpacedIs (here : Place) (r : List ℕ × Place) : Type 0 where
   apart : 0 < length between
   are_blanks : AllPass is_blank between
   word : List ℕ
-  begins : starts begins_word word ≡ true
-  continues : AllPass continues_word word
+  is : IsWord word
   value : r.0 ≡ encode_utf8_all word
   took : Took here r.1 (between ++ word)
 
@@ -103,8 +77,7 @@ spaced_by here r apart is = record {
   apart = front_some here.left apart;
   are_blanks = (front_is is_blank here.left).pass;
   word = is.word;
-  begins = is.begins;
-  continues = is.continues;
+  is = is.is;
   value = is.value;
   took = took_both here (past is_blank here) r.1 (front is_blank here.left) is.word (past_is is_blank here) is.took;
 }
@@ -152,8 +125,7 @@ line_by keyword here b r front is =
         blank_between = word.are_blanks;
         apart = word.apart;
         blank_after = is.line.pass;
-        begins = word.begins;
-        continues = word.continues;
+        is = word.is;
         value = is.same ∙ word.value;
       };
     }

@@ -1,19 +1,21 @@
 -- How many placeholders a text has: counted as the pieces say, character by character.
 use Rattle.std.proofs.Common.{◌≡◌, ℕ, suc, ◌+◌, Bool, true, false, cond, nat_eq, ◌&&◌, List, [], ◌∷◌, Option, Some, None, refl, ap, ◌∙◌, sym, eq-eqb, arith}
-use Rattle.std.specs.Option.{option_map}
+use Rattle.std.specs.Option.{option_map, option_and_then}
 use Rattle.std.specs.Str.{chars}
-use Rattle.std.proofs.lemmas.Option.{same_Some}
+use Rattle.std.proofs.lemmas.Option.{option_and_then_some, same_Some}
 use Rattle.text_cut.proofs.Options.{mapped, chosen, none_some}
-use Rattle.text_cut.specs.Place.{Place, first, first_in}
+use Rattle.syn_trees.specs.Literal.{HasValue, HasNoValue}
+use Rattle.syn_trees.specs.ReadString.{value_of}
 use Rattle.code_meaning.specs.Write.{Piece}
 use Rattle.hir_lower.specs.Pieces.{is_brace, placeholders, HasPieces}
 use Rattle.hir_lower.specs.Parts.{brace_part, with_part, parts_of, parts_from, pieces_from, holes}
 use Rattle.hir_lower.proofs.Parts.{HasParts, parts_found, parts_are}
 use Rattle.hir_lower.proofs.PlainPairs.{placeholders-pieces_from}
-use Rattle.script.specs.ReadItem.{is_placeholder, holes_of}
+use Rattle.script.specs.ReadItem.{first_of, is_placeholder, holes_in, holes_of}
+use Rattle.syn_trees.proofs.Values.{value_found, value_is, value_none}
 
 -- the placeholders of a text with pieces are counted
-pub holes_found : (text : List ℕ) (pieces : List Piece) → HasPieces text pieces → holes_of text ≡ Some (placeholders pieces)
+pub holes_found : (text : List ℕ) (pieces : List Piece) → HasPieces text pieces → holes_in text ≡ Some (placeholders pieces)
 holes_found text pieces has =
     let parts : HasParts (chars text) pieces = parts_found (chars text) pieces has in
     ap (λ o. option_map holes o) parts.read ∙ ap (λ n. Some n) (sym (ap placeholders parts.are ∙ placeholders-pieces_from 0 parts.parts))
@@ -25,13 +27,37 @@ pub record HasHoles (text : List ℕ) (count : ℕ) : Type 0 where
   pub fits : placeholders pieces ≡ count
 
 -- where placeholders are counted, the text has pieces with them
-pub holes_are : (text : List ℕ) (count : ℕ) → holes_of text ≡ Some count → HasHoles text count
+pub holes_are : (text : List ℕ) (count : ℕ) → holes_in text ≡ Some count → HasHoles text count
 holes_are text count e = mapped holes (parts_of (chars text)) count e
     (λ parts read same. record {
       pieces = pieces_from 0 parts;
       has = parts_are (chars text) parts read;
       fits = placeholders-pieces_from 0 parts ∙ same;
     })
+
+-- the placeholders of a token are those of its value
+pub holes_of-value : (token value : List ℕ) → HasValue token value → holes_of token ≡ holes_in value
+holes_of-value token value has = ap (λ o. option_and_then holes_in o) (value_found token value has)
+
+-- a token without a value has no count
+pub holes_of-none : (token : List ℕ) → HasNoValue token → holes_of token ≡ None
+holes_of-none token none = ap (λ o. option_and_then holes_in o) (value_none token none)
+
+-- a token has a value with so many placeholders
+pub record TokenHas (token : List ℕ) (count : ℕ) : Type 0 where
+  pub value : List ℕ
+  pub has_value : HasValue token value
+  pub holes : HasHoles value count
+
+-- the placeholders of a token with such a value are counted
+pub token_holes_found : (token : List ℕ) (count : ℕ) → TokenHas token count → holes_of token ≡ Some count
+token_holes_found token count has =
+    holes_of-value token has.value has.has_value ∙ (holes_found has.value has.holes.pieces has.holes.has ∙ ap (λ n. Some n) has.holes.fits)
+
+-- where the placeholders of a token are counted, its value has them
+pub token_holes_are : (token : List ℕ) (count : ℕ) → holes_of token ≡ Some count → TokenHas token count
+token_holes_are token count e = option_and_then_some holes_in (value_of token) count e
+    (λ value read counted. record { value = value; has_value = value_is token value read; holes = holes_are value count counted })
 
 -- a count, with the placeholders of what is left behind an open brace or none
 abbrev pub holes_with : ℕ → Option ℕ → List ℕ → Option ℕ
@@ -100,28 +126,25 @@ with_end_of_text count = ap (λ n. Some n) (none_more count)
     none_more : (n : ℕ) → n + 0 ≡ n
     none_more n = omega arith
 
--- what stands in front of a place behind one character
-left_is : (here : Place) (c : ℕ) (behind : Place) → Some (c, behind) ≡ first here → here.left ≡ c ∷ behind.left
-left_is here c behind there = by_left here.at here.left c behind there
-  where
-    by_left : (at : ℕ) (left : List ℕ) (c : ℕ) (behind : Place) → Some (c, behind) ≡ first_in at left → left ≡ c ∷ behind.left
-    by_left at [] c behind there = absurd (cc)
-    by_left at (d ∷ left) c behind there = sym (ap (λ (r : ℕ × Place). r.0 ∷ r.1.left) (same_Some _ _ there))
+-- a text is its first character in front of what is behind it
+text_is : (text : List ℕ) (c : ℕ) (behind : List ℕ) → Some (c, behind) ≡ first_of text → text ≡ c ∷ behind
+text_is [] c behind there = absurd (cc)
+text_is (d ∷ left) c behind there = sym (ap (λ (r : ℕ × List ℕ). r.0 ∷ r.1) (same_Some _ _ there))
 
 -- a character that is no brace leaves the count
-pub count_plain : (count : ℕ) (here : Place) (brace : Option ℕ) (c : ℕ) (behind : Place) (whole : Option ℕ) → Some (c, behind) ≡ first here → brace ≡ None → is_brace c ≡ false → holes_with count brace here.left ≡ whole → holes_with count brace behind.left ≡ whole
-count_plain count here brace c behind whole there is plain total =
-    ap (λ o. holes_with count o behind.left) is
-    ∙ (sym (with_plain count c behind.left plain)
-    ∙ (ap (λ l. holes_with count None l) (sym (left_is here c behind there))
-    ∙ (ap (λ o. holes_with count o here.left) (sym is) ∙ total)))
+pub count_plain : (count : ℕ) (text : List ℕ) (brace : Option ℕ) (c : ℕ) (behind : List ℕ) (whole : Option ℕ) → Some (c, behind) ≡ first_of text → brace ≡ None → is_brace c ≡ false → holes_with count brace text ≡ whole → holes_with count brace behind ≡ whole
+count_plain count text brace c behind whole there is plain total =
+    ap (λ o. holes_with count o behind) is
+    ∙ (sym (with_plain count c behind plain)
+    ∙ (ap (λ l. holes_with count None l) (sym (text_is text c behind there))
+    ∙ (ap (λ o. holes_with count o text) (sym is) ∙ total)))
 
 -- a character behind an open brace closes it
-pub count_closed : (count : ℕ) (here : Place) (open_brace : Option ℕ) (c b : ℕ) (behind : Place) (hole : Bool) (whole : Option ℕ) → Some (c, behind) ≡ first here → open_brace ≡ Some b → Some hole ≡ is_placeholder b c → holes_with count open_brace here.left ≡ whole → holes_with (cond hole (suc count) count) None behind.left ≡ whole
-count_closed count here open_brace c b behind hole whole there is tells total =
-    sym (with_closed count b c behind.left hole tells)
-    ∙ (ap (λ l. holes_with count (Some b) l) (sym (left_is here c behind there))
-    ∙ (ap (λ o. holes_with count o here.left) (sym is) ∙ total))
+pub count_closed : (count : ℕ) (text : List ℕ) (open_brace : Option ℕ) (c b : ℕ) (behind : List ℕ) (hole : Bool) (whole : Option ℕ) → Some (c, behind) ≡ first_of text → open_brace ≡ Some b → Some hole ≡ is_placeholder b c → holes_with count open_brace text ≡ whole → holes_with (cond hole (suc count) count) None behind ≡ whole
+count_closed count text open_brace c b behind hole whole there is tells total =
+    sym (with_closed count b c behind hole tells)
+    ∙ (ap (λ l. holes_with count (Some b) l) (sym (text_is text c behind there))
+    ∙ (ap (λ o. holes_with count o text) (sym is) ∙ total))
 
 pub is_none : (o : Option ℕ) → ((b : ℕ) → o ≡ Some b → ⊥) → o ≡ None
 is_none None never = refl

@@ -6,7 +6,7 @@ use Rattle.text_cut.specs.Reading.{Spelled, SoFar}
 use Rattle.ra_cfg.specs.declared.cfg_expr.CfgExpr.{CfgExpr}
 use Rattle.ra_cfg.specs.Options.{only_true}
 use Rattle.script.specs.declared.reading.Reading.{Reading}
-use Rattle.script.specs.Script.{Item, Blank, OptItem, CfgItem, FormatItem, IsItem, calls_behind, options_with}
+use Rattle.script.specs.Script.{Item, Blank, OptItem, CfgItem, FormatItem, IsItem, calls_behind, calls_of, options_with}
 use Rattle.script.specs.ReadItem.{item_at}
 
 -- nothing is remembered from item to item
@@ -19,13 +19,13 @@ waiting_behind waiting [] = waiting
 waiting_behind waiting (Blank ∷ more) = waiting_behind waiting more
 waiting_behind waiting (OptItem name ∷ more) = waiting_behind waiting more
 waiting_behind waiting (CfgItem predicate ∷ more) = waiting_behind (waiting ++ predicate ∷ []) more
-waiting_behind waiting (FormatItem template leaves ∷ more) = waiting_behind [] more
+waiting_behind waiting (FormatItem token leaves ∷ more) = waiting_behind [] more
 
 -- behind what was read, items give this
 pub record GoesOn (old : Reading) (values : List Item) (new : Reading) : Type 0 where
   pub options : new.options ≡ options_with old.options values
   pub waiting : new.waiting ≡ waiting_behind old.waiting values
-  pub calls : new.calls.items ≡ old.calls.items ++ calls_behind old.waiting values
+  pub calls : new.calls.items ≡ old.calls.items ++ calls_behind (length old.calls.items) old.waiting values
 
 -- nothing was read
 pub record IsEmpty (reading : Reading) : Type 0 where
@@ -37,7 +37,7 @@ pub record IsEmpty (reading : Reading) : Type 0 where
 pub record HasRead (reading : Reading) (values : List Item) : Type 0 where
   pub options : reading.options ≡ options_with only_true values
   pub waiting : reading.waiting ≡ waiting_behind [] values
-  pub calls : reading.calls.items ≡ calls_behind [] values
+  pub calls : reading.calls.items ≡ calls_of values
 
 -- the items up to this place were read
 pub record ReadSoFar (text : List ℕ) (reading : Reading) (here : Place) : Type 0 where

@@ -1,5 +1,5 @@
 -- What stands at a place in a script, found from the text's front: one reader for each part of an item, and one for each kind of item.
-use Rattle.std.specs.Prelude.{ℕ, zero, suc, Bool, true, false, ◌&&◌, nat_eq, nat_le, List, [], ◌∷◌, length, Option, Some, None, codes, if◌then◌else◌, option_map}
+use Rattle.std.specs.Prelude.{◌≡◌, ℕ, zero, suc, Bool, true, false, ◌&&◌, nat_eq, nat_le, ◌==◌, List, [], ◌∷◌, length, map, Option, Some, None, codes, if◌then◌else◌, option_map}
 use Rattle.std.specs.Option.{option_and_then}
 use Rattle.std.specs.Str.{chars, encode_utf8_all}
 use Rattle.std.specs.Str.Parse.{digits_value}
@@ -7,19 +7,42 @@ use Rattle.std.specs.Char.{is_ascii_digit}
 use Rattle.text_cut.specs.Runs.{front, starts, is_blank}
 use Rattle.text_cut.specs.Place.{Place, past}
 use Rattle.text_cut.specs.Rules.{past_word}
+use Rattle.syn_trees.specs.declared.format_call.LeafSyntax.{LeafSyntax}
+use Rattle.syn_trees.specs.declared.format_call.FormatArgSyntax.{FormatArgSyntax}
+use Rattle.syn_trees.specs.ReadString.{between, token_end, value_of}
 use Rattle.ra_cfg.specs.declared.cfg_expr.CfgAtom.TheVariants.{Flag}
 use Rattle.ra_cfg.specs.declared.cfg_expr.CfgExpr.{Atom}
 use Rattle.hir_lower.specs.Parts.{parts_of, holes}
-use Rattle.script.specs.Script.{Item, Blank, OptItem, CfgItem, FormatItem, begins_word, continues_word, is_plain}
+use Rattle.script.specs.Script.{Item, Blank, OptItem, CfgItem, FormatItem, begins_word, continues_word, is_in_line, argument}
 use Rattle.script.specs.declared.item.ScriptItem.{ScriptItem}
 use Rattle.script.specs.declared.item.ScriptItem.TheVariants as read
+
+-- the number of a leaf; 0 where there is none
+abbrev pub leaf_in : Option LeafSyntax → ℕ
+leaf_in None = 0
+leaf_in (Some leaf) = leaf.leaf
+
+-- the number of an argument's leaf
+abbrev pub leaf_of : FormatArgSyntax → ℕ
+leaf_of arg = leaf_in arg.expr
 
 -- what an item that was read stands for
 abbrev pub item_of : ScriptItem → Item
 item_of read.Blank = Blank
 item_of (read.OptItem name) = OptItem name.now
 item_of (read.CfgItem name) = CfgItem (Atom (Flag name.now))
-item_of (read.Format text leaves) = FormatItem text.now leaves
+item_of (read.Format literal args) = FormatItem literal (map leaf_of args)
+
+-- these are arguments of the call with this number
+abbrev pub AreArguments : ℕ → List FormatArgSyntax → Type 0
+AreArguments number args = args ≡ map (argument number) (map leaf_of args)
+
+-- if the item is a call, it is the call with this number
+abbrev pub IsNumbered : ℕ → ScriptItem → Type 0
+IsNumbered number read.Blank = Unit {0}
+IsNumbered number (read.OptItem name) = Unit {0}
+IsNumbered number (read.CfgItem name) = Unit {0}
+IsNumbered number (read.Format literal args) = AreArguments number args
 
 -- the place behind a word that stands behind blanks
 abbrev pub past_spaced : List ℕ → Place → Option Place
@@ -53,13 +76,17 @@ opt_at p = option_map (λ name. (OptItem name.0, name.1)) (name_at p)
 abbrev pub cfg_at : Place → Option (Item × Place)
 cfg_at p = option_map (λ name. (CfgItem (Atom (Flag name.0)), name.1)) (name_at p)
 
--- the bytes of the string whose first character stands at this place, and the place behind its last quote
-abbrev pub inside_at : Place → Option (List ℕ × Place)
-inside_at p = option_map (λ e. (encode_utf8_all (front is_plain p.left), e)) (past_word (34 ∷ []) (past is_plain p))
+-- the bytes of the string token between these places, and the place behind it
+abbrev pub token_between : Place → Place → List ℕ × Place
+token_between p e = (encode_utf8_all (between p e), e)
 
--- the bytes of the string that stands behind blanks, and the place behind it
+-- the bytes of the string token that stands at this place, and the place behind it
+abbrev pub token_at : Place → Option (List ℕ × Place)
+token_at p = option_map (token_between p) (token_end p)
+
+-- the bytes of the string token that stands behind blanks, and the place behind it
 abbrev pub string_at : Place → Option (List ℕ × Place)
-string_at p = option_and_then inside_at (past_spaced (34 ∷ []) p)
+string_at p = token_at (past is_blank p)
 
 -- the number that digits write, if there are some and it has 32 bits
 abbrev pub number_of : List ℕ → Option ℕ
@@ -92,18 +119,27 @@ leaves_within (suc most) p = leaf_then (leaf_at p) (λ e. leaves_within most e) 
 abbrev pub leaves_at : Place → List ℕ × Place
 leaves_at p = leaves_within (length p.left) p
 
+-- the first character of a text, and what is behind it
+abbrev pub first_of : List ℕ → Option (ℕ × List ℕ)
+first_of [] = None
+first_of (c ∷ left) = Some (c, left)
+
 -- whether a brace and the character behind it are a placeholder; nothing where they are no doubled brace either
 abbrev pub is_placeholder : ℕ → ℕ → Option Bool
 is_placeholder b c = if nat_eq c b then Some false else if nat_eq b 123 && nat_eq c 125 then Some true else None
 
 -- how many placeholders the bytes of a text have; nothing where the text has no pieces
-abbrev pub holes_of : List ℕ → Option ℕ
-holes_of text = option_map holes (parts_of (chars text))
+abbrev pub holes_in : List ℕ → Option ℕ
+holes_in text = option_map holes (parts_of (chars text))
 
--- the call of `format_args!` of a text with so many placeholders, if as many leaves were read and the line ends behind them
+-- how many placeholders the value of a token has; nothing where there is no value, or it has no pieces
+abbrev pub holes_of : List ℕ → Option ℕ
+holes_of token = option_and_then holes_in (value_of token)
+
+-- the call of `format_args!` of a token with so many placeholders, if as many leaves were read and the line ends behind them
 abbrev pub counted_call : List ℕ → Option ℕ → List ℕ × Place → Option (Item × Place)
-counted_call text None leaves = None
-counted_call text (Some count) leaves = if nat_eq (length leaves.0) count then option_map (λ e. (FormatItem text leaves.0, e)) (past_line leaves.1) else None
+counted_call token None leaves = None
+counted_call token (Some count) leaves = if nat_eq (length leaves.0) count then option_map (λ e. (FormatItem token leaves.0, e)) (past_line leaves.1) else None
 
 -- the call of `format_args!` whose string was read
 abbrev pub call_behind : List ℕ × Place → Option (Item × Place)
@@ -118,13 +154,25 @@ abbrev pub or_else : {A : Type 0} → Option Place → (Place → Option A) → 
 or_else None reader other = other
 or_else (Some p) reader other = reader p
 
+-- the place, if no character that goes on a word stands there
+abbrev pub at_word_end : Place → Option Place
+at_word_end e = if starts continues_word e.left then None else Some e
+
+-- the place behind a keyword, if it stands at this place as a whole word
+abbrev pub past_keyword : List ℕ → Place → Option Place
+past_keyword keyword p = option_and_then at_word_end (past_word keyword p)
+
 -- the item with a keyword that stands at this place
 abbrev pub keyword_item : Place → Option (Item × Place)
-keyword_item p = or_else (past_word (codes "opt") p) opt_at (or_else (past_word (codes "cfg") p) cfg_at (or_else (past_word (codes "format") p) format_at None))
+keyword_item p = or_else (past_keyword (codes "opt") p) opt_at (or_else (past_keyword (codes "cfg") p) cfg_at (or_else (past_keyword (codes "format") p) format_at None))
+
+-- the place behind a comment, or where there is none, the place itself
+abbrev pub past_comment : Place → Place
+past_comment p = if starts (λ c. c == 35) p.left then past is_in_line p else p
 
 -- the item whose blanks stand in front of this place
 abbrev pub item_behind : Place → Option (Item × Place)
-item_behind p = or_else (past_word (10 ∷ []) p) (λ e. Some (Blank, e)) (keyword_item p)
+item_behind p = or_else (past_word (10 ∷ []) (past_comment p)) (λ e. Some (Blank, e)) (keyword_item p)
 
 -- the item that stands at a place, and the place behind it
 abbrev pub item_at : Place → Option (Item × Place)

@@ -1,17 +1,18 @@
-ghost use Rattle.std.specs.Prelude.{◌≡◌, ◌++◌, [], ◌∷◌, IfOk, OnOk};
+ghost use Rattle.std.specs.Prelude.{◌≡◌, ◌≤◌, [], ◌∷◌, IfOk, OnOk, length, map};
 ghost use Rattle.ra_cfg.specs.declared.cfg_expr.CfgAtom.TheVariants.{Flag};
 ghost use Rattle.ra_cfg.specs.declared.cfg_expr.CfgExpr.{Atom};
 ghost use Rattle.script.specs.Script.{OptItem, CfgItem, FormatItem};
-ghost use Rattle.script.specs.ReadItem.{item_of};
+ghost use Rattle.script.specs.ReadItem.{item_of, AreArguments, IsNumbered, leaf_of};
 ghost use Rattle.script.specs.ReadCalls.{IsEmpty, GoesOn};
 
 use crate::item::ScriptItem;
-use hir_lower::{Call, FormatCall, GatedCall};
+use hir_lower::{Call, GatedCall};
 use ra_cfg::{CfgAtom, CfgExpr, CfgOptions};
 use sqlite_items::Items;
 use std::alloc::{AllocError, Global};
 use std::mem;
-use sym_core::Symbol;
+use sym_core::{AstPtr, Symbol};
+use syn_trees::{FormatArgSyntax, FormatCall, StringLit, Template};
 
 /// What the items of a script have given so far.
 #[derive(Drop)]
@@ -54,33 +55,57 @@ impl Reading {
         self.waiting.push(CfgExpr::Atom(CfgAtom::Flag(key)))
     }
 
-    // Adds a call of `format_args!`, with the predicates that waited for it.
+    /// The pointer of the next call: the number of the calls so far.
+    pub(crate) fn next_ptr(&self) -> AstPtr
+        requires { length self.now.calls.items ≤ 4_294_967_295 }
+        ensures { result.node ≡ length self.now.calls.items }
+    {
+        AstPtr {
+            node: self.calls.len() as u32,
+        }
+    }
+
+    // Adds a call of `format_args!` with this pointer, and with the predicates that waited for it.
     fn push_format(
         &mut self,
         alloc: Global,
-        text: &str,
-        leaves: Items<u32>,
+        ptr: AstPtr,
+        literal: StringLit,
+        args: Items<FormatArgSyntax>,
     ) -> Result<(), AllocError>
-        ensures { OnOk result (GoesOn self.old (FormatItem text.now leaves ∷ []) self.new) }
+        requires next { ptr.node ≡ length self.old.calls.items }
+        requires numbered { AreArguments ptr.node args }
+        ensures { OnOk result (GoesOn self.old (FormatItem literal (map leaf_of args) ∷ []) self.new) }
     {
-        let template = Symbol::new(alloc, text)?;
         let cfgs = mem::replace(&mut self.waiting, Items::new(alloc));
         self.calls.push(GatedCall {
             cfgs,
-            call: Call::Format(FormatCall { template, leaves }),
+            call: Call::Format(FormatCall {
+                template: Some(Template::Str(literal)),
+                template_ptr: ptr,
+                args,
+                ptr,
+            }),
         })?;
         Ok(())
     }
 
-    /// Adds what the next item gives.
-    pub(crate) fn add(&mut self, alloc: Global, item: ScriptItem<'_>) -> Result<(), AllocError>
+    /// Adds what the next item gives. The pointer is that of the next call.
+    pub(crate) fn add(
+        &mut self,
+        alloc: Global,
+        ptr: AstPtr,
+        item: ScriptItem<'_>,
+    ) -> Result<(), AllocError>
+        requires next { ptr.node ≡ length self.old.calls.items }
+        requires numbered { IsNumbered ptr.node item }
         ensures { OnOk result (GoesOn self.old (item_of item.entry ∷ []) self.new) }
     {
         match item {
             ScriptItem::Blank => Ok(()),
             ScriptItem::OptItem(name) => self.set_option(alloc, name),
             ScriptItem::CfgItem(name) => self.push_predicate(alloc, name),
-            ScriptItem::Format { text, leaves } => self.push_format(alloc, text, leaves),
+            ScriptItem::Format { literal, args } => self.push_format(alloc, ptr, literal, args),
         }
     }
 }

@@ -69,11 +69,14 @@ fn read_items(alloc: Global, text: &str) -> Result<(Reading, u32), AllocError>
 {
     let mut reading = Reading::new(alloc)?;
     let mut here = begin(text);
-    while let Some((item, behind)) = read_item(alloc, here)? {
-        reading.add(alloc, item)?;
+    loop {
+        let ptr = reading.next_ptr();
+        let Some((item, behind)) = read_item(alloc, here, ptr)? else {
+            return Ok((reading, here.at));
+        };
+        reading.add(alloc, ptr, item)?;
         here = behind;
     }
-    Ok((reading, here.at))
 }
 
 // The line of the byte behind these bytes, counted from 1.
@@ -160,9 +163,29 @@ mod tests {
     use hir_lower::Call;
     use ra_cfg::{CfgAtom, CfgExpr};
     use std::test::Fail;
-    use sym_core::Symbol;
+    use sym_core::{AstPtr, Symbol};
+    use syn_trees::{FormatCall, Template};
 
-    // Adds a line with the names of a call's predicates, its text and its leaves.
+    // Adds the token of a call's string, and its leaves.
+    fn push_format(
+        alloc: Global,
+        text: &mut String,
+        format: &FormatCall,
+    ) -> Result<(), AllocError> {
+        if let Some(Template::Str(literal)) = &format.template {
+            text.push_str(literal.text())?;
+        }
+        for arg in format.args.as_slice() {
+            if let Some(leaf) = arg.expr {
+                let number = leaf.leaf;
+                let word = format!(in alloc; " @{number}")?;
+                text.push_str(word.as_str())?;
+            }
+        }
+        text.push('\n')
+    }
+
+    // Adds a line with the names of a call's predicates, the token of its string and its leaves.
     fn push_call(alloc: Global, text: &mut String, call: &GatedCall) -> Result<(), AllocError> {
         for cfg in call.cfgs.as_slice() {
             if let CfgExpr::Atom(CfgAtom::Flag(name)) = cfg {
@@ -171,12 +194,7 @@ mod tests {
             }
         }
         let Call::Format(format) = &call.call;
-        text.push_str(format.template.as_str())?;
-        for leaf in format.leaves.as_slice() {
-            let word = format!(in alloc; " @{leaf}")?;
-            text.push_str(word.as_str())?;
-        }
-        text.push('\n')
+        push_format(alloc, text, format)
     }
 
     // The calls, one a line; or the line of the fault.
@@ -201,15 +219,15 @@ mod tests {
         let cases: [(&[u8], &str); 12] = [
             (b"", ""),
             (b"\n", ""),
-            (b"format \"hi\"", "hi\n"),
-            (b" \t format\t\"a\" \r\n", "a\n"),
-            (b"format\"\"\nformat \"{{}}\"\n", "\n{{}}\n"),
-            (b"format \"h\xc3\xa9\"", "hé\n"),
+            (b"format \"hi\"", "\"hi\"\n"),
+            (b" \t format\t\"a\" \r\n", "\"a\"\n"),
+            (b"format\"\"\nformat \"{{}}\"\n", "\"\"\n\"{{}}\"\n"),
+            (b"format \"h\xc3\xa9\"", "\"hé\"\n"),
             (b"\n\n\xff", "line 3"),
             (b"opt a\nformat \"a", "line 2"),
             (b"format \"a\"\nformat \"{\"\n", "line 2"),
             (b"format \"{}\"", "line 1"),
-            (b"format \"a\\n\"", "line 1"),
+            (b"format \"a\\n\"", "\"a\\n\"\n"),
             (b"format \"a\" b", "line 1"),
         ];
         for (bytes, want) in cases {
@@ -228,11 +246,11 @@ mod tests {
     #[test]
     fn reads_leaves(rt: HostRuntime) -> Result<(), Fail> {
         let cases: [(&[u8], &str); 16] = [
-            (b"format \"x{}y{{\" @1", "x{}y{{ @1\n"),
-            (b"format \"{}{}\"@1@20\n", "{}{} @1 @20\n"),
-            (b"format \"{}{}\" @2\t@1 \r", "{}{} @2 @1\n"),
-            (b"format \"{}\" @007", "{} @7\n"),
-            (b"format \"{}\" @4294967295", "{} @4294967295\n"),
+            (b"format \"x{}y{{\" @1", "\"x{}y{{\" @1\n"),
+            (b"format \"{}{}\"@1@20\n", "\"{}{}\" @1 @20\n"),
+            (b"format \"{}{}\" @2\t@1 \r", "\"{}{}\" @2 @1\n"),
+            (b"format \"{}\" @007", "\"{}\" @7\n"),
+            (b"format \"{}\" @4294967295", "\"{}\" @4294967295\n"),
             (b"format \"{}\" @4294967296", "line 1"),
             (b"format \"{}\" @99999999999999999999999999", "line 1"),
             (b"format \"{}\" @1a", "line 1"),
@@ -259,14 +277,116 @@ mod tests {
             (b"opt a b", "line 1"),
             (b"opt \n", "line 1"),
             (b"cfg 1a", "line 1"),
-            (b"cfg h\xc3\xa9", "line 1"),
-            (b"opt a\n cfg\ta \r\nformat \"x\"", "a x\n"),
-            (b"cfg a\n\ncfg b\nformat \"x\"", "a b x\n"),
-            (b"cfg a\nformat \"x\"\nformat \"y\"", "a x\ny\n"),
-            (b"format \"x\"\ncfg a", "x\n"),
+            (b"cfg h\xc3\xa9", ""),
+            (b"opt a\n cfg\ta \r\nformat \"x\"", "a \"x\"\n"),
+            (b"cfg a\n\ncfg b\nformat \"x\"", "a b \"x\"\n"),
+            (b"cfg a\nformat \"x\"\nformat \"y\"", "a \"x\"\n\"y\"\n"),
+            (b"format \"x\"\ncfg a", "\"x\"\n"),
         ];
         for (bytes, want) in cases {
             assert_eq!(rt; told(rt.alloc(), bytes)?.as_str(), want, "at {bytes:?}");
+        }
+        Ok(())
+    }
+
+    #[test]
+    fn reads_comments_and_words(rt: HostRuntime) -> Result<(), Fail> {
+        let cases: [(&[u8], &str); 11] = [
+            (b"# a note\n", ""),
+            (b" # a", ""),
+            (b"#", ""),
+            (b"# \xc3\xa9 #\nformat \"x\"\n#", "\"x\"\n"),
+            (b"opt a # x", "line 1"),
+            (b"opt \xc3\xa9", ""),
+            (b"cfg \xcf\x801", ""),
+            (b"opt \xc2\xb7x", "line 1"),
+            (b"opt x\xc2\xb7", ""),
+            (b"opt 1a", "line 1"),
+            (b"cfg h\xc3\xa9\nformat \"x\"", "hé \"x\"\n"),
+        ];
+        for (bytes, want) in cases {
+            assert_eq!(rt; told(rt.alloc(), bytes)?.as_str(), want, "at {bytes:?}");
+        }
+        Ok(())
+    }
+
+    #[test]
+    fn reads_strings(rt: HostRuntime) -> Result<(), Fail> {
+        let cases: [(&[u8], &str); 14] = [
+            (b"format\xc3\xa9\"x\"", "line 1"),
+            (b"formatr\"x\"", "line 1"),
+            (b"format r\"x\"", "r\"x\"\n"),
+            (b"format r#\"a\"b{}\"# @3", "r#\"a\"b{}\"# @3\n"),
+            (b"format \"a\\x41\"", "\"a\\x41\"\n"),
+            (b"format \"\\x7b}\" @1", "\"\\x7b}\" @1\n"),
+            (b"format \"\\q\"", "line 1"),
+            (b"format r\"\\q\"", "r\"\\q\"\n"),
+            (b"format \"a\nb\"", "\"a\nb\"\n"),
+            (b"format \"a\nb\"\n?", "line 3"),
+            (b"format\"x\"@1", "line 1"),
+            (b"format\"{}\"@1", "\"{}\" @1\n"),
+            (b"format r\"a", "line 1"),
+            (b"format r#\"a\"", "line 1"),
+        ];
+        for (bytes, want) in cases {
+            assert_eq!(rt; told(rt.alloc(), bytes)?.as_str(), want, "at {bytes:?}");
+        }
+        Ok(())
+    }
+
+    fn push_marks(text: &mut String, marks: u32) -> Result<(), AllocError> {
+        for _ in 0..marks {
+            text.push('#')?;
+        }
+        Ok(())
+    }
+
+    // Whether a call with a raw string of so many marks is a script.
+    fn is_call(alloc: Global, marks: u32) -> Result<bool, ScriptError> {
+        let mut text = String::new(alloc);
+        text.push_str("format r")?;
+        push_marks(&mut text, marks)?;
+        text.push_str("\"a\"")?;
+        push_marks(&mut text, marks)?;
+        if text.len() > MOST {
+            return Ok(false);
+        }
+        match read_script(alloc, text.as_bytes()) {
+            Ok(_) => Ok(true),
+            Err(ScriptError::Syntax { .. }) => Ok(false),
+            Err(error) => Err(error),
+        }
+    }
+
+    #[test]
+    fn reads_marks(rt: HostRuntime) -> Result<(), Fail> {
+        assert!(rt; is_call(rt.alloc(), 255)?, "255 marks");
+        assert!(rt; !is_call(rt.alloc(), 256)?, "256 marks");
+        Ok(())
+    }
+
+    // Whether every pointer of a call is that of this node.
+    fn is_at(call: &GatedCall, node: u32) -> bool {
+        let Call::Format(format) = &call.call;
+        let ptr = AstPtr { node };
+        format.ptr == ptr
+            && format.template_ptr == ptr
+            && format
+                .args
+                .as_slice()
+                .iter()
+                .all(|arg| arg.expr.is_none_or(|leaf| leaf.ptr == ptr))
+    }
+
+    #[test]
+    fn numbers_calls(rt: HostRuntime) -> Result<(), Fail> {
+        let script = read_script(
+            rt.alloc(),
+            b"format \"{}\" @7\nopt a\n\nformat \"x\"\nformat \"{}{}\" @1 @2",
+        )?;
+        assert_eq!(rt; script.calls.len(), 3, "three calls");
+        for (node, call) in script.calls.iter().enumerate() {
+            assert!(rt; is_at(call, node as u32), "call {node}");
         }
         Ok(())
     }

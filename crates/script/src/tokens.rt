@@ -1,13 +1,16 @@
-ghost use Rattle.std.specs.Prelude.{◌≡◌, ◌+◌, ◌≤◌, [], ◌∷◌, IfSome, length, codes, option_map};
+ghost use Rattle.std.specs.Prelude.{◌≡◌, ◌+◌, ◌≤◌, ◌<◌, [], ◌∷◌, IfSome, length, chars, codes, option_map};
 ghost use Rattle.text_cut.specs.Runs.{starts};
 ghost use Rattle.text_cut.specs.Place.{past};
 ghost use Rattle.text_cut.specs.Rules.{past_word};
 ghost use Rattle.text_cut.specs.Seen.{seen};
 ghost use Rattle.std.specs.Char.{is_ascii_digit};
-ghost use Rattle.script.specs.Script.{begins_word, continues_word, is_plain};
-ghost use Rattle.script.specs.ReadItem.{past_line, word_at, spaced_word_at, name_at, inside_at, string_at, number_at, leaf_at, is_placeholder, holes_of};
+ghost use Rattle.syn_trees.specs.Literal.{IsLiteral};
+ghost use Rattle.script.specs.Script.{begins_word, continues_word, is_in_line};
+ghost use Rattle.script.specs.ReadItem.{past_line, past_comment, past_keyword, word_at, spaced_word_at, name_at, string_at, number_at, leaf_at, is_placeholder, holes_in, first_of};
 
-use text_cut::{Cursor, begin, begins_with, blanks, next, run, text_between, word};
+use syn_trees::string_token;
+use text_cut::{Cursor, begins_with, blanks, first_char, run, starts_with, text_between, word};
+use unicode_ident::{is_xid_continue, is_xid_start};
 
 // The place behind a line feed.
 #[tactic(auto, using(crate::proofs::Words::words))]
@@ -18,40 +21,61 @@ pub(crate) fn line_feed(here: Cursor<'_>) -> Option<Cursor<'_>>
     word(here, "\n")
 }
 
-// The place behind a quote.
-#[tactic(auto, using(crate::proofs::Words::words))]
-fn quote(here: Cursor<'_>) -> Option<Cursor<'_>>
-    ensures value { option_map seen result ≡ past_word (34 ∷ []) (seen here.entry) }
-    ensures shorter { IfSome result (λ e. length e.rest.now + 1 ≤ length here.entry.rest.now) }
+/// The place behind a comment; where there is none, the place itself.
+pub(crate) fn comment(here: Cursor<'_>) -> Cursor<'_>
+    ensures value { seen result ≡ past_comment (seen here.entry) }
+    ensures shorter { length result.rest.now ≤ length here.entry.rest.now }
 {
-    word(here, "\"")
+    if !starts_with(here, '#') {
+        return here;
+    }
+    run(here, |c| c != '\n')
 }
 
-// The place behind the word `opt`.
+// Whether a character that goes on a word stands here.
+fn continues_word(here: Cursor<'_>) -> bool
+    ensures { result ≡ starts continues_word (seen here.entry).left }
+{
+    begins_with(here, |c| is_xid_continue(c))
+}
+
+// The place behind a keyword that stands here as a whole word.
+fn keyword<'a>(here: Cursor<'a>, text: &str) -> Option<Cursor<'a>>
+    ensures value { option_map seen result ≡ past_keyword (chars text.now) (seen here.entry) }
+    ensures shorter { IfSome result (λ e. length e.rest.now + length (chars text.now) ≤ length here.entry.rest.now) }
+{
+    let behind = word(here, text)?;
+    if continues_word(behind) {
+        return None;
+    }
+    Some(behind)
+}
+
+// The place behind the keyword `opt`.
 #[tactic(auto, using(crate::proofs::Words::words))]
 pub(crate) fn opt_word(here: Cursor<'_>) -> Option<Cursor<'_>>
-    ensures value { option_map seen result ≡ past_word (codes "opt") (seen here.entry) }
+    ensures value { option_map seen result ≡ past_keyword (codes "opt") (seen here.entry) }
     ensures shorter { IfSome result (λ e. length e.rest.now + 1 ≤ length here.entry.rest.now) }
 {
-    word(here, "opt")
+    keyword(here, "opt")
 }
 
-// The place behind the word `cfg`.
+// The place behind the keyword `cfg`.
 #[tactic(auto, using(crate::proofs::Words::words))]
 pub(crate) fn cfg_word(here: Cursor<'_>) -> Option<Cursor<'_>>
-    ensures value { option_map seen result ≡ past_word (codes "cfg") (seen here.entry) }
+    ensures value { option_map seen result ≡ past_keyword (codes "cfg") (seen here.entry) }
     ensures shorter { IfSome result (λ e. length e.rest.now + 1 ≤ length here.entry.rest.now) }
 {
-    word(here, "cfg")
+    keyword(here, "cfg")
 }
 
-// The place behind the word `format`.
+// The place behind the keyword `format`.
 #[tactic(auto, using(crate::proofs::Words::words))]
 pub(crate) fn format_word(here: Cursor<'_>) -> Option<Cursor<'_>>
-    ensures value { option_map seen result ≡ past_word (codes "format") (seen here.entry) }
+    ensures value { option_map seen result ≡ past_keyword (codes "format") (seen here.entry) }
     ensures shorter { IfSome result (λ e. length e.rest.now + 1 ≤ length here.entry.rest.now) }
 {
-    word(here, "format")
+    keyword(here, "format")
 }
 
 // The place behind blanks and a line feed.
@@ -62,19 +86,19 @@ pub(crate) fn line_end(here: Cursor<'_>) -> Option<Cursor<'_>>
     line_feed(blanks(here))
 }
 
-// Whether a letter or `_` stands here.
+// Whether a character that begins a word stands here.
 fn begins_word(here: Cursor<'_>) -> bool
     ensures { result ≡ starts begins_word (seen here.entry).left }
 {
-    begins_with(here, |c| c.is_ascii_alphabetic() || c == '_')
+    begins_with(here, |c| is_xid_start(c) || c == '_')
 }
 
-// The place behind the letters, digits and `_` that stand here.
+// The place behind the characters that go on a word.
 fn word_end(here: Cursor<'_>) -> Cursor<'_>
     ensures value { seen result ≡ past continues_word (seen here.entry) }
     ensures shorter { length result.rest.now ≤ length here.entry.rest.now }
 {
-    run(here, |c| c.is_ascii_alphanumeric() || c == '_')
+    run(here, |c| is_xid_continue(c))
 }
 
 // The text of the word that stands here, and the place behind it.
@@ -110,33 +134,15 @@ pub(crate) fn name<'a>(here: Cursor<'a>) -> Option<(&'a str, Cursor<'a>)>
     Some((text, end))
 }
 
-// The place behind the plain characters that stand here.
-fn string_end(here: Cursor<'_>) -> Cursor<'_>
-    ensures value { seen result ≡ past is_plain (seen here.entry) }
-    ensures shorter { length result.rest.now ≤ length here.entry.rest.now }
-{
-    run(here, |c| !(c == '"' || c == '\\' || c == '\n'))
-}
-
-// The text of a string behind its first quote, and the place behind its last one.
-fn inside<'a>(here: Cursor<'a>) -> Option<(&'a str, Cursor<'a>)>
-    ensures value { option_map (λ r. (r.0.now, seen r.1)) result ≡ inside_at (seen here.entry) }
-    ensures short { IfSome result (λ r. length r.0.now ≤ 4_294_967_295) }
-    ensures shorter { IfSome result (λ r. length r.1.rest.now + 1 ≤ length here.entry.rest.now) }
-{
-    let end = string_end(here);
-    let behind = quote(end)?;
-    Some((text_between(here, end), behind))
-}
-
-// The text of a string behind blanks, and the place behind it.
+/// The string token behind blanks, and the place behind it.
 pub(crate) fn string<'a>(here: Cursor<'a>) -> Option<(&'a str, Cursor<'a>)>
     ensures value { option_map (λ r. (r.0.now, seen r.1)) result ≡ string_at (seen here.entry) }
-    ensures short { IfSome result (λ r. length r.0.now ≤ 4_294_967_295) }
+    ensures literal { IfSome result (λ r. IsLiteral r.0.now) }
     ensures shorter { IfSome result (λ r. length r.1.rest.now + 1 ≤ length here.entry.rest.now) }
 {
-    let behind = quote(blanks(here))?;
-    inside(behind)
+    let begin = blanks(here);
+    let end = string_token(begin)?;
+    Some((text_between(begin, end), end))
 }
 
 // The place behind an `@`.
@@ -146,13 +152,6 @@ fn at_sign(here: Cursor<'_>) -> Option<Cursor<'_>>
     ensures shorter { IfSome result (λ e. length e.rest.now + 1 ≤ length here.entry.rest.now) }
 {
     word(here, "@")
-}
-
-// Whether a letter, a digit or `_` stands here.
-fn continues_word(here: Cursor<'_>) -> bool
-    ensures { result ≡ starts continues_word (seen here.entry).left }
-{
-    begins_with(here, |c| c.is_ascii_alphanumeric() || c == '_')
 }
 
 // The place behind the digits that stand here.
@@ -200,15 +199,29 @@ fn is_placeholder(brace: char, c: char) -> Option<bool>
     }
 }
 
+// What is still to be read of a text.
+#[derive(Clone, Copy, Drop)]
+struct Unread<'a> {
+    text: &'a str,
+}
+
+// The first character of a text, and what is behind it.
+fn first_unread(unread: Unread<'_>) -> Option<(char, Unread<'_>)>
+    ensures value { option_map (λ r. (r.0, chars r.1.text.now)) result ≡ first_of (chars unread.entry.text.now) }
+    ensures shorter { IfSome result (λ r. length r.1.text.now < length unread.entry.text.now) }
+{
+    let (c, text) = first_char(unread.text)?;
+    Some((c, Unread { text }))
+}
+
 /// How many placeholders a text has; none where it has no pieces.
 pub(crate) fn count_placeholders(text: &str) -> Option<usize>
-    requires { length text.now ≤ 4_294_967_295 }
-    ensures { result ≡ holes_of text.now }
+    ensures { result ≡ holes_in text.now }
 {
     let mut count = 0;
     let mut open = None;
-    let mut here = begin(text);
-    while let Some((c, behind)) = next(here) {
+    let mut unread = Unread { text };
+    while let Some((c, behind)) = first_unread(unread) {
         if let Some(brace) = open {
             if is_placeholder(brace, c)? {
                 count += 1;
@@ -217,7 +230,7 @@ pub(crate) fn count_placeholders(text: &str) -> Option<usize>
         } else if c == '{' || c == '}' {
             open = Some(c);
         }
-        here = behind;
+        unread = behind;
     }
     match open {
         None => Some(count),

@@ -8,3 +8,4 @@ pub mod Behind
 pub mod Pieces
 pub mod Longer
 pub mod SoFar
+pub mod Whole

@@ -5,7 +5,7 @@ use Rattle.std.specs.Char.{len_utf8}
 use Rattle.std.proofs.lemmas.Bool.Decides.{nat_tests}
 use Rattle.std.proofs.lemmas.List.{append_cancel_right}
 use Rattle.std.proofs.lemmas.Option.{option_and_then_some, same_Some}
-use Rattle.text_cut.specs.Runs.{front, size}
+use Rattle.text_cut.specs.Runs.{front, size, IsLongest}
 use Rattle.text_cut.specs.Place.{Place, place, past, Took}
 use Rattle.text_cut.specs.Rules.{Spells, Reads, Both, paired, both_at, IsOne, one_in, one_at, IsWord, word_in, past_word, word_at, IsRun, run_at}
 use Rattle.text_cut.proofs.Sizes.{size_append}
@@ -103,6 +103,10 @@ word_reads word = record {
 -- a longest run stands between a place and the place past it
 pub past_is : (p : ℕ → Bool) (here : Place) → Took here (past p here) (front p here.left)
 past_is p here = record { there = front_behind p here.left; ends = refl }
+
+-- the place past a run that is the longest
+pub past_run : (p : ℕ → Bool) (run rest : List ℕ) (at : ℕ) → IsLongest p run rest → past p (place at (run ++ rest)) ≡ place (at + size run) rest
+past_run p run rest at longest = rw (front_of p run rest longest, behind_of p run rest longest) refl
 
 -- the reader of a longest run
 pub run_reads : (p : ℕ → Bool) → Reads (IsRun p) (run_at p)

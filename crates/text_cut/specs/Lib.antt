@@ -3,3 +3,4 @@ pub mod Place
 pub mod Rules
 pub mod Reading
 pub mod Seen
+pub mod Whole

@@ -1,6 +1,5 @@
 use Rattle.std.proofs.Common.{Err, ap, subst, ◌<◌}
-use Rattle.hir_lower.specs.Building.{Outgrows}
-use Rattle.hir_lower.specs.Lowered.{most_exprs, most_lets}
+use Rattle.hir_lower.specs.Lowered.{most_exprs}
 use Rattle.hir_lower.proofs.Outcomes.{many_exprs}
 use Rattle.cfgfmt.proofs.program.lower.Goals as goal
 

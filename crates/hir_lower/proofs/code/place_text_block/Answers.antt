@@ -8,15 +8,15 @@ use Rattle.hir_lower.proofs.code.place_text_block.Goals as goal
 pub returns-in_err-block-clause-builds : goal.returns-in_err-block-clause-builds
 returns-in_err-block-clause-builds c = builds_within (builds_then c.in_ok-statements.ensures.builds (builds_then
     (builds_still c.in_ok-code.ensures.grows c.in_ok-code.ensures.patterns c.in_ok-code.ensures.bindings c.in_ok-code.ensures.kept c.in_ok-code.ensures.count)
-    (c.in_err-block.ensures.builds (statements (arguments_of c.args.leaves.now) (from_str_code c.args.text))
-    (steps_of_added _ _ _ c.args.leaves.now _ _ c.new.ensures.items (adds_later _ _ c.in_ok-code.ensures.grows _ _ _ c.in_ok-statements.ensures.adds) c.in_ok-code.ensures.stands)))) (omega arith) (omega arith)
+    (c.in_err-block.ensures.builds (statements (arguments_of c.args.args.now) (from_str_code c.args.text))
+    (steps_of_added _ _ _ (arguments_of c.args.args.now) _ _ c.new.ensures.items (adds_later _ _ c.in_ok-code.ensures.grows _ _ _ c.in_ok-statements.ensures.adds) c.in_ok-code.ensures.stands)))) (omega arith) (omega arith)
 
 pub returns-clause-stands : goal.returns-clause-stands
-returns-clause-stands c = c.in_ok-block.ensures.stands (statements (arguments_of c.args.leaves.now) (from_str_code c.args.text))
-    (steps_of_added _ _ _ c.args.leaves.now _ _ c.new.ensures.items (adds_later _ _ c.in_ok-code.ensures.grows _ _ _ c.in_ok-statements.ensures.adds) c.in_ok-code.ensures.stands)
+returns-clause-stands c = c.in_ok-block.ensures.stands (statements (arguments_of c.args.args.now) (from_str_code c.args.text))
+    (steps_of_added _ _ _ (arguments_of c.args.args.now) _ _ c.new.ensures.items (adds_later _ _ c.in_ok-code.ensures.grows _ _ _ c.in_ok-statements.ensures.adds) c.in_ok-code.ensures.stands)
 
 pub returns-clause-builds : goal.returns-clause-builds
 returns-clause-builds c = builds_within (builds_then c.in_ok-statements.ensures.builds (builds_then
     (builds_still c.in_ok-code.ensures.grows c.in_ok-code.ensures.patterns c.in_ok-code.ensures.bindings c.in_ok-code.ensures.kept c.in_ok-code.ensures.count)
-    (c.in_ok-block.ensures.builds (statements (arguments_of c.args.leaves.now) (from_str_code c.args.text))
-    (steps_of_added _ _ _ c.args.leaves.now _ _ c.new.ensures.items (adds_later _ _ c.in_ok-code.ensures.grows _ _ _ c.in_ok-statements.ensures.adds) c.in_ok-code.ensures.stands)))) (omega arith) (omega arith)
+    (c.in_ok-block.ensures.builds (statements (arguments_of c.args.args.now) (from_str_code c.args.text))
+    (steps_of_added _ _ _ (arguments_of c.args.args.now) _ _ c.new.ensures.items (adds_later _ _ c.in_ok-code.ensures.grows _ _ _ c.in_ok-statements.ensures.adds) c.in_ok-code.ensures.stands)))) (omega arith) (omega arith)

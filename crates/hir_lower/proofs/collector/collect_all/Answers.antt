@@ -1,8 +1,7 @@
 use Rattle.std.specs.Prelude.{◌≡◌, take}
-use Rattle.std.proofs.Common.{arith, ◌∙◌, ap, sym, Err}
+use Rattle.std.proofs.Common.{◌∙◌, ap, sym, Err}
 use Rattle.std.proofs.lemmas.Result.{err_from_is_err_and}
 use Rattle.hir_lower.specs.declared.error.LowerError.TheVariants.{ArenaFull}
-use Rattle.hir_lower.specs.Lowered.{most_of, most_exprs, lets_of, most_lets}
 use Rattle.hir_lower.proofs.Building.{builds_then, builds_within, outgrows_later}
 use Rattle.hir_lower.proofs.Outcomes.{outcomes_later, outcomes_on, in_store_later, in_store_on, rising_on, from_lower, most_on, lets_on, next_call, most_next, lets_next, longer}
 use Rattle.hir_lower.proofs.collector.collect_all.Goals as goal

@@ -1,4 +1,4 @@
-use Rattle.std.specs.Prelude.{◌≡◌, length, take}
+use Rattle.std.specs.Prelude.{length, take}
 use Rattle.hir_store.specs.Store.{IsPlaced}
 use Rattle.hir_lower.specs.Building.{Builds}
 use Rattle.hir_lower.specs.Lowered.{AreOutcomes, AreRising, AreInStore, most_exprs, most_lets}

@@ -1,0 +1,10 @@
+pub mod Words
+pub mod Plain
+pub mod Raw
+pub mod Tokens
+pub mod Units
+pub mod Digits
+pub mod Unescaped
+mod EscapeExamples
+pub mod Literals
+pub mod Values

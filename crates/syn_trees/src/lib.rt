@@ -1,0 +1,25 @@
+//! What a syntax tree gives of macro calls and their predicates, as plain trees: token trees, predicates, string literals, and the calls
+//! of `format_args!` and inline assembly.
+#![tactic(auto)]
+
+mod asm_call;
+mod cfg_predicate;
+mod escape;
+mod format_call;
+mod laws;
+mod quoted;
+mod string_lit;
+mod token_tree;
+mod tt_iter;
+
+pub use asm_call::{
+    AsmCall, AsmDir, AsmExprSyntax, AsmExprs, AsmOperandSyntax, AsmPiece, AsmPieceKind,
+    AsmRegSyntax,
+};
+pub use cfg_predicate::{CfgAtomKey, CfgPredicate};
+pub use format_call::{FormatArgSyntax, FormatCall, LeafSyntax, MacroCallSrc, Template};
+pub use laws::{one_value, tokens_are_read};
+pub use quoted::string_token;
+pub use string_lit::{EscapeError, StringLit};
+pub use token_tree::{Spacing, TokenTree, TopSubtree, TtLiteral};
+pub use tt_iter::TtIter;

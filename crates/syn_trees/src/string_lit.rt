@@ -1,0 +1,285 @@
+ghost use Rattle.std.specs.Prelude.{◌≡◌, ◌↔◌, ◌≤◌, length, not, nat_eq, IfOk, IfSome, IfNone, IsTrue};
+ghost use Rattle.text_cut.specs.Place.{past};
+ghost use Rattle.text_cut.specs.Seen.{seen};
+ghost use Rattle.syn_trees.specs.Literal.{IsLiteral, HasValue, HasNoValue, IsBetweenQuotes, IsUnescaped};
+ghost use Rattle.syn_trees.specs.ReadString.{found_of, PartsOf};
+
+use crate::escape::unescape;
+use crate::quoted::{Quoted, string_token, token};
+use std::alloc::{AllocError, Global};
+use std::fmt;
+use std::marker::Model;
+use sym_core::{Symbol, TextRange};
+use text_cut::{Cursor, begin, is_at_end, run, starts_with, text_between};
+use thiserror::Error;
+
+/// A string literal, by its whole token (the Rust Reference, "String literals" and "Raw string literals").
+#[derive(Drop)]
+pub struct StringLit {
+    token: Symbol,
+}
+
+impl Model for StringLit {
+    ghost use Rattle.std.specs.Prelude.{ℕ, List};
+    ghost use Rattle.text_cut.specs.Place.{past};
+    ghost use Rattle.text_cut.specs.Seen.{seen};
+    ghost use Rattle.syn_trees.specs.Literal.{IsLiteral};
+
+    ghost Value = { List ℕ };
+
+    ghost view = { λ literal. literal.token };
+
+    ghost invariant = { λ literal. IsLiteral literal.token };
+}
+
+/// Why a literal has no value.
+#[derive(Debug, Drop, Error)]
+pub enum EscapeError {
+    /// What stands behind a `\` is no escape.
+    #[error("a `\\` begins no escape")]
+    Escape,
+    /// No memory is left.
+    #[error("{0}")]
+    Memory(AllocError),
+}
+
+impl From<AllocError> for EscapeError {
+    ghost use Rattle.std.specs.Prelude.{◌≡◌};
+    ghost use Rattle.syn_trees.specs.declared.string_lit.EscapeError.TheVariants.{Memory};
+
+    ghost from_gives = { λ error refused. refused ≡ Memory error };
+
+    fn from(error: AllocError) -> EscapeError {
+        EscapeError::Memory(error)
+    }
+}
+
+impl fmt::Debug for StringLit {
+    ghost use Rattle.std.specs.Fmt.{debug_str};
+
+    ghost debug_output = { λ literal. debug_str literal };
+
+    fn fmt<W: fmt::Write>(&self, f: &mut fmt::Formatter<W>) -> fmt::Result {
+        fmt::Debug::fmt(&self.token, f)
+    }
+}
+
+impl Clone for StringLit {
+    ghost is_clone = { λ literal copy. copy ≡ literal };
+
+    fn clone(&self) -> Result<Self, AllocError> {
+        let token = self.token.clone()?;
+        Ok(StringLit { token })
+    }
+}
+
+// The greatest length of a token.
+const MOST: usize = 4_294_967_295;
+
+// Whether a text is a string token that is not too long.
+fn is_literal(text: &str) -> bool
+    ensures { IsTrue result ↔ IsLiteral text.now }
+{
+    if text.len() > MOST {
+        return false;
+    }
+    match string_token(begin(text)) {
+        Some(end) => is_at_end(end),
+        None => false,
+    }
+}
+
+// The place in front of the next backslash, or at the end.
+fn before_backslash(here: Cursor<'_>) -> Cursor<'_>
+    ensures { seen result ≡ past (λ c. not (nat_eq c 92)) (seen here.entry) }
+{
+    run(here, |c| c != '\\')
+}
+
+// The range between two places.
+fn range_between(from: Cursor<'_>, to: Cursor<'_>) -> TextRange
+    ensures start { result.start ≡ from.entry.at }
+    ensures end { result.end ≡ to.entry.at }
+{
+    TextRange {
+        start: from.at,
+        end: to.at,
+    }
+}
+
+impl StringLit {
+    /// Returns the literal of this token, and `None` exactly where it is no string token, or longer than 4,294,967,295
+    /// bytes.
+    pub fn new(token: Symbol) -> Option<StringLit>
+        ensures value { IfSome result (λ literal. literal ≡ token) }
+        ensures none { IfNone result (IsLiteral token → ⊥) }
+    {
+        if !is_literal(token.as_str()) {
+            return None;
+        }
+        Some(StringLit { token })
+    }
+
+    /// Returns the whole token, with its quotes.
+    pub fn text(&self) -> &str
+        ensures { result.now ≡ self.now }
+    {
+        self.token.as_str()
+    }
+
+    // The token, as it is found in its text.
+    fn parts(&self) -> Quoted<'_>
+        ensures { PartsOf self.now (found_of result) }
+    {
+        match token(begin(self.token.as_str())) {
+            Some(parts) => parts,
+            None => unreachable!(),
+        }
+    }
+
+    /// Returns the range of what stands between the quotes, in bytes of the token.
+    pub fn quote_offsets(&self) -> TextRange
+        ensures { IsBetweenQuotes self.now result.start result.end }
+    {
+        let parts = self.parts();
+        range_between(parts.from, parts.to)
+    }
+
+    /// Returns whether the literal's value is what stands between its quotes: whether it is raw, or has no `\`.
+    pub fn is_plain(&self) -> bool
+        ensures { IsTrue result ↔ IsUnescaped self.now }
+    {
+        let here = begin(self.token.as_str());
+        starts_with(here, 'r') || is_at_end(before_backslash(here))
+    }
+
+    /// Returns what the literal stands for: what stands between its quotes, where each escape is replaced.
+    ///
+    /// # Errors
+    ///
+    /// [`EscapeError::Escape`] exactly where the literal is not raw and holds a `\` that begins no escape;
+    /// [`EscapeError::Memory`] where no memory is left.
+    pub fn value(&self, alloc: Global) -> Result<Symbol, EscapeError>
+        ensures value { IfOk result (λ symbol. HasValue self.now symbol) }
+        ensures escape { result ≡ Err EscapeError.Escape → HasNoValue self.now }
+    {
+        let parts = self.parts();
+        let inside = text_between(parts.from, parts.to);
+        match parts.marks {
+            Some(_) => Ok(Symbol::new(alloc, inside)?),
+            None => {
+                let text = unescape(alloc, inside)?;
+                Ok(Symbol::new(alloc, text.as_str())?)
+            }
+        }
+    }
+}
+
+#[cfg(test)]
+mod tests {
+    use super::*;
+    use std::test::Fail;
+
+    // The literal of a token, if it is one.
+    fn literal(alloc: Global, token: &str) -> Result<Option<StringLit>, AllocError> {
+        Ok(StringLit::new(Symbol::new(alloc, token)?))
+    }
+
+    // The range between the quotes, whether the literal is plain, and its value or `Escape`.
+    fn told(alloc: Global, token: &str) -> Result<String, AllocError> {
+        let Some(literal) = literal(alloc, token)? else {
+            return String::from_str(alloc, "no token");
+        };
+        let range = literal.quote_offsets();
+        let kind = if literal.is_plain() {
+            "plain"
+        } else {
+            "escaped"
+        };
+        match literal.value(alloc) {
+            Ok(value) => format!(in alloc; "{}..{} {kind} {value}", range.start, range.end),
+            Err(EscapeError::Escape) => format!(in alloc;
+                "{}..{} {kind} Escape",
+                range.start, range.end
+            ),
+            Err(EscapeError::Memory(refused)) => Err(refused),
+        }
+    }
+
+    #[test]
+    fn reads_literals(rt: HostRuntime) -> Result<(), Fail> {
+        let cases = [
+            ("\"\"", "1..1 plain "),
+            ("\"net\"", "1..4 plain net"),
+            ("\"é\"", "1..3 plain é"),
+            ("\"a\\x41\"", "1..6 escaped aA"),
+            ("\"\\q\"", "1..3 escaped Escape"),
+            ("\"\\\"\"", "1..3 escaped \""),
+            ("\"a\nb\"", "1..4 plain a\nb"),
+            ("r\"\"", "2..2 plain "),
+            ("r\"\\q\"", "2..4 plain \\q"),
+            ("r#\"a\"b\"#", "3..6 plain a\"b"),
+            ("r##\"a\"#b\"##", "4..8 plain a\"#b"),
+        ];
+        for (token, want) in cases {
+            assert_eq!(rt; told(rt.alloc(), token)?.as_str(), want, "of {token}");
+        }
+        Ok(())
+    }
+
+    #[test]
+    fn refuses_other_texts(rt: HostRuntime) -> Result<(), Fail> {
+        let cases = [
+            "",
+            "\"",
+            "net",
+            "\"a",
+            "\"a\"b",
+            "\"a\"\"",
+            "\"\\\"",
+            "'a'",
+            "b\"a\"",
+            " \"a\"",
+            "r",
+            "r\"a",
+            "r#\"a\"",
+            "r\"a\"#",
+            "r#\"a\"#\"#",
+            "r#a#",
+        ];
+        for token in cases {
+            assert!(rt;
+                literal(rt.alloc(), token)?.is_none(),
+                "{token} is no token"
+            );
+        }
+        Ok(())
+    }
+
+    #[test]
+    fn counts_marks(rt: HostRuntime) -> Result<(), Fail> {
+        let alloc = rt.alloc();
+        let marks = "#".repeat(alloc, 255)?;
+        let most = format!(in alloc; "r{marks}\"a\"{marks}")?;
+        assert_eq!(rt; told(alloc, most.as_str())?.as_str(), "257..258 plain a");
+        let more = format!(in alloc; "r{marks}#\"a\"{marks}#")?;
+        assert_eq!(rt; told(alloc, more.as_str())?.as_str(), "no token");
+        Ok(())
+    }
+
+    #[test]
+    fn copies_the_token(rt: HostRuntime) -> Result<(), Fail> {
+        let token = "r#\"a\"b\"#";
+        let Some(original) = literal(rt.alloc(), token)? else {
+            panic!(rt; "{token} is a token");
+        };
+        let copy = original.clone()?;
+        assert_eq!(rt; original.text(), token);
+        assert_eq!(rt; copy.text(), token);
+        assert_eq!(rt;
+            format!(in rt.alloc(); "{copy:?}")?.as_str(),
+            "\"r#\\\"a\\\"b\\\"#\""
+        );
+        Ok(())
+    }
+}
