@@ -128,6 +128,101 @@ fn answers_scripts(rt: HostRuntime) -> Result<(), Fail> {
 }
 
 #[test]
+fn gates_calls_by_their_predicates(rt: HostRuntime) -> Result<(), Fail> {
+    let cases: [(&[u8], &str); 7] = [
+        // A part that is no predicate decides nothing, and `all` goes on behind it.
+        (
+            b"cfg all(windows, 5)\nformat \"\"\ncfg all(5, windows)\nformat \"\"",
+            "0 off\n1 code Arguments::from_str(s\"\")\n",
+        ),
+        // Of token trees, `not` reads its first part; as syntax it has one part or is no predicate.
+        (
+            b"opt a\ncfg not(a, b)\nformat \"\"\nattr not(a, b)\nformat \"\"",
+            "0 off\n1 code Arguments::from_str(s\"\")\n",
+        ),
+        (
+            b"opt k = \"v\"\ncfg k = \"v\"\nformat \"x\"\nattr k = r\"w\"\nformat \"y\"",
+            "0 code Arguments::from_str(s\"78\")\n1 off\n",
+        ),
+        // Each predicate is looked at by itself: what none can tell switches nothing on.
+        (b"cfg 5\ncfg false\nformat \"\"", "0 off\n"),
+        // The last answer for a version counts, and one without an answer is neither true nor false.
+        (
+            b"version \"1\" no\nversion \"1\" yes\ncfg version(\"1\")\nformat \"\"",
+            "0 code Arguments::from_str(s\"\")\n",
+        ),
+        (
+            b"version \"1.70\" yes\nversion \"9.0\" no\ncfg version(\"1.70\")\nformat \"a\"\ncfg all(a, version(\"9.0\"))\nformat \"b\"\ncfg any(version(\"2\"), a)\nformat \"c\"\nattr version(\"9.0\")\nformat \"e\"",
+            "0 code Arguments::from_str(s\"61\")\n1 off\n2 code Arguments::from_str(s\"63\")\n3 off\n",
+        ),
+        // What has a reserved name or key changes nothing.
+        (
+            b"opt true = \"x\"\nopt false\ncfg false\nformat \"\"",
+            "0 off\n",
+        ),
+    ];
+    for (bytes, want) in cases {
+        let bytes = Vec::from_slice(rt.alloc(), bytes)?;
+        let (status, written, _) = run_over(rt.alloc(), "", bytes, &[], &[])?;
+        assert_eq!(rt; status, 0, "for the output {want}");
+        assert_eq!(rt; written.as_slice(), want.as_bytes());
+    }
+    Ok(())
+}
+
+#[test]
+fn refuses_lines_that_are_no_predicates(rt: HostRuntime) -> Result<(), Fail> {
+    let cases: [(&[u8], &str); 6] = [
+        (b"cfg all(a", "error syntax at line 1\n"),
+        (b"cfg a)", "error syntax at line 1\n"),
+        (b"\nattr all(a,,b)", "error syntax at line 2\n"),
+        (b"attr", "error syntax at line 1\n"),
+        (b"opt a =", "error syntax at line 1\n"),
+        (b"version \"1\" maybe", "error syntax at line 1\n"),
+    ];
+    for (bytes, want) in cases {
+        let bytes = Vec::from_slice(rt.alloc(), bytes)?;
+        let (status, written, outcomes) = run_over(rt.alloc(), "", bytes, &[], &[])?;
+        assert_eq!(rt; status, 3, "for the line {want}");
+        assert_eq!(rt; written.as_slice(), want.as_bytes());
+        assert_eq!(rt; outcomes, 0);
+    }
+    Ok(())
+}
+
+// A line with this keyword, so many times `not(`, `a` and as many `)`, and a call behind it.
+fn nested(alloc: Global, keyword: &str, depth: usize) -> Result<Vec<u8>, Fail> {
+    let mut text = String::new(alloc);
+    text.push_str(keyword)?;
+    for _ in 0..depth {
+        text.push_str(" not(")?;
+    }
+    text.push_str("a")?;
+    for _ in 0..depth {
+        text.push_str(")")?;
+    }
+    text.push_str("\nformat \"\"\n")?;
+    Ok(Vec::from_slice(alloc, text.as_str().as_bytes())?)
+}
+
+#[test]
+fn nests_to_a_depth_of_128(rt: HostRuntime) -> Result<(), Fail> {
+    let cases: [(&str, usize, u8, &str); 4] = [
+        ("cfg", 128, 0, "0 off\n"),
+        ("cfg", 129, 3, "error syntax at line 1\n"),
+        ("attr", 128, 0, "0 off\n"),
+        ("attr", 129, 3, "error syntax at line 1\n"),
+    ];
+    for (keyword, depth, want, line) in cases {
+        let bytes = nested(rt.alloc(), keyword, depth)?;
+        let (status, written, _) = run_over(rt.alloc(), "", bytes, &[], &[])?;
+        assert_eq!(rt; status, want, "for {depth} groups");
+        assert_eq!(rt; written.as_slice(), line.as_bytes());
+    }
+    Ok(())
+}
+
+#[test]
 fn tells_each_refusal(rt: HostRuntime) -> Result<(), Fail> {
     let hi = b"format \"hi\"".as_slice();
     let cases: [(&str, &[u8], &[u64], &[u64], u8, &str, usize); 9] = [

@@ -53,4 +53,6 @@ fn push_outcome(
 }
 
 #[cfg(test)]
+mod lowered;
+#[cfg(test)]
 mod tests;

@@ -1,9 +1,11 @@
--- What a flag that is put in leaves: a reserved name changes nothing.
+-- What an atom that is put in leaves: a reserved name or key changes nothing.
 use Rattle.std.proofs.Common.{◌≡◌, ℕ, Bool, true, false, ◌||◌, List, inl, inr, refl, codes}
 use Rattle.std.specs.Str.{bytes_eq}
 use Rattle.std.proofs.lemmas.Slice.Eq.{bytes_eq-Decides}
-use Rattle.ra_cfg.specs.declared.cfg_expr.CfgAtom.TheVariants.{Flag}
-use Rattle.ra_cfg.specs.Options.{Options, IsReserved, is_reserved, with_atom, with_flag}
+use Rattle.ra_cfg.specs.declared.cfg_expr.CfgAtom.{CfgAtom}
+use Rattle.ra_cfg.specs.Options.{Options, IsReserved, is_reserved, name_of, with_atom, with_free, without_free}
+use Rattle.std.specs.FinSet as set
+use Rattle.ra_cfg.proofs.OptionSets.{options}
 
 first_true : (a b : Bool) → a ≡ true → (a || b) ≡ true
 first_true a b e = rw e refl
@@ -30,10 +32,18 @@ free_is name free = both_false (bytes_eq name (codes "true")) (bytes_eq name (co
     (λ e. free (inl ((bytes_eq-Decides name (codes "true")).0 e)))
     (λ e. free (inr ((bytes_eq-Decides name (codes "false")).0 e)))
 
--- a reserved name changes nothing
-pub kept_flag : (o : Options) (name : List ℕ) → IsReserved name → with_flag o name ≡ o
-kept_flag o name reserved = rw (reserved_is name reserved) refl
+-- an atom with a reserved name or key changes nothing
+pub kept_free : (o : Options) (a : CfgAtom) → IsReserved (name_of a) → with_free o a ≡ o
+kept_free o a reserved = rw (reserved_is (name_of a) reserved) refl
 
--- another name is put in
-pub new_flag : (o : Options) (name : List ℕ) → (IsReserved name → ⊥) → with_flag o name ≡ with_atom o (Flag name)
-new_flag o name free = rw (free_is name free) refl
+-- another atom is put in
+pub new_free : (o : Options) (a : CfgAtom) → (IsReserved (name_of a) → ⊥) → with_free o a ≡ with_atom o a
+new_free o a free = rw (free_is (name_of a) free) refl
+
+-- an atom with a reserved name or key stays
+pub stays_free : (o : Options) (a : CfgAtom) → IsReserved (name_of a) → without_free o a ≡ o
+stays_free o a reserved = rw (reserved_is (name_of a) reserved) refl
+
+-- another atom is taken out
+pub gone_free : (o : Options) (a : CfgAtom) → (IsReserved (name_of a) → ⊥) → without_free o a ≡ options (set.remove o.atoms a) o.versions
+gone_free o a free = rw (free_is (name_of a) free) refl

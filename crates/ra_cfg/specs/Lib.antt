@@ -1,2 +1,13 @@
+pub mod AtomOrder
+pub mod Diff
+pub mod Hashable
 pub mod Options
 pub mod Reading
+pub mod Text
+pub mod Decided
+pub mod Hashed
+pub mod TokenRules
+pub mod Weights
+pub mod Syntax
+pub mod SameOptions
+pub mod TokenLaws

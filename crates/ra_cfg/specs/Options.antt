@@ -1,7 +1,8 @@
 -- Options are a set of atoms and a map from the texts of versions to yes or no.
-use Rattle.std.specs.Prelude.{◌≡◌, ℕ, Bool, true, ◌||◌, if◌then◌else◌, List, ◌⊎◌, codes, refl}
+use Rattle.std.specs.Prelude.{◌≡◌, ℕ, Bool, true, ◌||◌, if◌then◌else◌, List, [], ◌∷◌, ◌⊎◌, Option, Some, None, map as list_map, codes, refl}
+use Rattle.std.specs.List.{IsDistinct, filter_map}
 use Rattle.std.specs.Str.{bytes_eq}
-use Rattle.std.specs.Ordering.{nat_cmp}
+use Rattle.std.specs.Ordering.{nat_cmp, eq_by_cmp}
 use Rattle.std.specs.declared.cmp.Ordering.{Ordering}
 use Rattle.std.specs.Coded.{Coded, code_by, coded×, coded_list, coded_ℕ, coded_bool}
 use Rattle.std.specs.Cmp.Lexicographic.{slice_cmp}
@@ -59,3 +60,56 @@ is_reserved name = bytes_eq name (codes "true") || bytes_eq name (codes "false")
 -- the options with this flag put in: a reserved name changes nothing
 abbrev pub with_flag : Options → List ℕ → Options
 with_flag o name = if is_reserved name then o else with_atom o (Flag name)
+
+-- the options with this atom put in: one with a reserved name or key changes nothing
+abbrev pub with_free : Options → CfgAtom → Options
+with_free o a = if is_reserved (name_of a) then o else with_atom o a
+
+-- the options with these atoms put in, one after the other
+abbrev pub with_all : Options → List CfgAtom → Options
+with_all o [] = o
+with_all o (a ∷ rest) = with_all (with_free o a) rest
+
+-- the options without this atom: one with a reserved name or key stays
+abbrev pub without_free : Options → CfgAtom → Options
+without_free o a = if is_reserved (name_of a) then o else (record { atoms = set.remove o.atoms a; versions = o.versions })
+
+-- the options without these atoms
+abbrev pub without_all : Options → List CfgAtom → Options
+without_all o [] = o
+without_all o (a ∷ rest) = without_all (without_free o a) rest
+
+-- `new` is what is left where these atoms are put into `old`
+abbrev pub TakesIn : Options → List CfgAtom → Options → Type 0
+TakesIn old atoms new = new ≡ with_all old atoms
+
+-- the options with this answer for a version
+abbrev pub with_answer : Options → List ℕ → Bool → Options
+with_answer o text answer = record { atoms = o.atoms; versions = map.insert o.versions text answer }
+
+-- a list has each atom of a set once
+pub record Lists (atoms : set.FinSet atom_cmp) (items : List CfgAtom) : Type 0 where
+  pub each : set.from_list items ≡ atoms
+  pub once : IsDistinct (eq_by_cmp atom_cmp) items
+
+-- the name of a flag, or the key of a pair, of each of these atoms
+abbrev pub names_of : List CfgAtom → List (List ℕ)
+names_of atoms = list_map name_of atoms
+
+-- the value of a pair with this key
+abbrev pub value_at : List ℕ → CfgAtom → Option (List ℕ)
+value_at wanted (Flag name) = None
+value_at wanted (KeyValue key value) = if bytes_eq key wanted then Some value else None
+
+-- the value of each of these atoms that is a pair with this key
+abbrev pub values_at : List ℕ → List CfgAtom → List (List ℕ)
+values_at wanted atoms = filter_map (value_at wanted) atoms
+
+-- a map with these answers put in, one after the other
+abbrev pub with_answers : map.FinMap (slice_cmp nat_cmp) Bool → List (List ℕ × Bool) → map.FinMap (slice_cmp nat_cmp) Bool
+with_answers versions [] = versions
+with_answers versions (e ∷ rest) = with_answers (map.insert versions e.0 e.1) rest
+
+-- the atoms of both options, and the answers of both, those of the second over those of the first
+abbrev pub appended : Options → Options → Options
+appended o other = record { atoms = set.union o.atoms other.atoms; versions = with_answers o.versions (map.entries other.versions) }

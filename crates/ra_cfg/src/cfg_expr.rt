@@ -1,10 +1,14 @@
-ghost use Rattle.std.specs.Prelude.{◌≡◌, Bool, ℕ, List, Option, map};
+ghost use Rattle.std.specs.Prelude.{◌≡◌, ◌↔◌, Bool, ℕ, List, Option, None, map, fold, IfOk, IsTrue};
 ghost use Rattle.std.specs.List.{flat_map};
+ghost use Rattle.std.specs.Hash as fed;
 ghost use Rattle.std.specs.Fn.{FnReturnsAt};
 ghost use Rattle.ra_cfg.specs.declared.cfg_expr.CfgAtom.{CfgAtom as AtomValue};
 ghost use Rattle.ra_cfg.specs.Reading.{reading, read_all, read_any, atoms_of, versions_of, Agrees};
+ghost use Rattle.ra_cfg.specs.Hashed.{hashed};
 
 use sqlite_items::{Boxed, Items};
+use std::alloc::{AllocError, Global};
+use std::hash::{Hash, Hasher};
 use sym_core::Symbol;
 
 /// A single condition, as the outside sets it.
@@ -72,6 +76,161 @@ impl CfgExpr {
             CfgExpr::Version(text) => version(text),
         }
     }
+
+    /// Returns what the predicate reads where no version has an answer, and `query` tells of each atom whether it is
+    /// set.
+    pub fn fold<F: Fn(&CfgAtom) -> bool>(&self, query: &F) -> Option<bool>
+        requires { F.IsAlwaysCallable query.now }
+        ensures { (holds : AtomValue → Bool) → Agrees (FnReturnsAt F.Fn query.now) holds (atoms_of self.now) → result ≡ reading holds (λ text. None) self.now }
+    {
+        self.fold_with(query, &|_text| None)
+    }
+
+    /// Makes a copy.
+    ///
+    /// # Errors
+    ///
+    /// Returns an error if there is no memory.
+    #[cycle(copying)]
+    pub fn try_clone(&self, alloc: Global) -> Result<CfgExpr, AllocError>
+        ensures { IfOk result (λ copy. copy ≡ self.now) }
+    {
+        match self {
+            CfgExpr::Invalid => Ok(CfgExpr::Invalid),
+            CfgExpr::Atom(atom) => Ok(CfgExpr::Atom(atom.clone()?)),
+            CfgExpr::All(parts) => Ok(CfgExpr::All(copy_all(alloc, parts.as_slice())?)),
+            CfgExpr::Any(parts) => Ok(CfgExpr::Any(copy_all(alloc, parts.as_slice())?)),
+            CfgExpr::Not(part) => {
+                let copy = part.get().try_clone(alloc)?;
+                Ok(CfgExpr::Not(Boxed::new(alloc, copy)?))
+            }
+            CfgExpr::Version(text) => Ok(CfgExpr::Version(text.clone()?)),
+        }
+    }
+
+    #[cycle(comparing)]
+    fn is_same(&self, other: &CfgExpr) -> bool
+        ensures { IsTrue result ↔ (self.now ≡ other.now) }
+    {
+        match self {
+            CfgExpr::Invalid => matches!(other, CfgExpr::Invalid),
+            CfgExpr::Atom(atom) => match other {
+                CfgExpr::Atom(second) => atom == second,
+                _ => false,
+            },
+            CfgExpr::All(parts) => match other {
+                CfgExpr::All(others) => are_same(parts.as_slice(), others.as_slice()),
+                _ => false,
+            },
+            CfgExpr::Any(parts) => match other {
+                CfgExpr::Any(others) => are_same(parts.as_slice(), others.as_slice()),
+                _ => false,
+            },
+            CfgExpr::Not(part) => match other {
+                CfgExpr::Not(second) => part.get().is_same(second.get()),
+                _ => false,
+            },
+            CfgExpr::Version(text) => match other {
+                CfgExpr::Version(second) => text == second,
+                _ => false,
+            },
+        }
+    }
+}
+
+impl PartialEq for CfgExpr {
+    ghost use Rattle.std.specs.Cmp.{partial_equiv_from_equiv};
+    ghost use Rattle.ra_cfg.specs.contracts.cfg_expr.CfgExpr.{the_row};
+    ghost use Rattle.ra_cfg.specs.Decided.{equal, equal_equiv};
+
+    ghost eq = { equal the_row.coded };
+
+    ghost laws = { partial_equiv_from_equiv (equal_equiv the_row.coded) };
+
+    fn eq(&self, other: &CfgExpr) -> bool {
+        self.is_same(other)
+    }
+}
+
+impl Eq for CfgExpr {
+    ghost use Rattle.ra_cfg.specs.contracts.cfg_expr.CfgExpr.{the_row};
+    ghost use Rattle.ra_cfg.specs.Decided.{equal_equiv};
+
+    ghost laws = { equal_equiv the_row.coded };
+}
+
+impl Hash for CfgExpr {
+    ghost use Rattle.std.specs.Hash.{same_Alike};
+    ghost use Rattle.ra_cfg.specs.contracts.cfg_expr.CfgExpr.{the_row};
+    ghost use Rattle.ra_cfg.specs.Decided.{equal_Decides};
+    ghost use Rattle.ra_cfg.specs.Hashed.{hashed};
+
+    ghost hash_input = { hashed };
+
+    ghost respects_eq = { (same_Alike hashed (equal_Decides the_row.coded)).fed };
+
+    #[cycle(hashing)]
+    fn hash<H: Hasher>(&self, state: &mut H) {
+        match self {
+            CfgExpr::Invalid => state.write_u8(0),
+            CfgExpr::Atom(atom) => {
+                state.write_u8(1);
+                atom.hash(state);
+            }
+            CfgExpr::All(parts) => {
+                state.write_u8(2);
+                hash_all(parts.as_slice(), state);
+            }
+            CfgExpr::Any(parts) => {
+                state.write_u8(3);
+                hash_all(parts.as_slice(), state);
+            }
+            CfgExpr::Not(part) => {
+                state.write_u8(4);
+                part.get().hash(state);
+            }
+            CfgExpr::Version(text) => {
+                state.write_u8(5);
+                text.hash(state);
+            }
+        }
+    }
+}
+
+#[cycle(hashing)]
+fn hash_all<H: Hasher>(parts: &[CfgExpr], state: &mut H)
+    ensures { state.new ≡ fold H.write state.old (fed.slice (λ part. part) (map hashed parts.now)) }
+{
+    state.write_usize(parts.len());
+    for part in parts {
+        part.hash(state);
+    }
+}
+
+#[cycle(copying)]
+fn copy_all(alloc: Global, parts: &[CfgExpr]) -> Result<Items<CfgExpr>, AllocError>
+    ensures { IfOk result (λ copies. copies ≡ parts.now) }
+{
+    let mut copies = Items::new(alloc);
+    for part in parts {
+        copies.push(part.try_clone(alloc)?)?;
+    }
+    Ok(copies)
+}
+
+#[cycle(comparing)]
+fn are_same(parts: &[CfgExpr], others: &[CfgExpr]) -> bool
+    ensures { IsTrue result ↔ (parts.now ≡ others.now) }
+{
+    if parts.len() != others.len() {
+        return false;
+    }
+    for i in 0..parts.len() {
+        if !parts[i].is_same(&others[i]) {
+            return false;
+        }
+    }
+    true
 }
 
 #[cycle(folding)]
@@ -108,4 +267,61 @@ fn fold_any<F: Fn(&CfgAtom) -> bool, G: Fn(&Symbol) -> Option<bool>>(
         }
     }
     Some(false)
+}
+
+#[cfg(test)]
+mod tests {
+    use super::*;
+    use std::hash::DefaultHasher;
+    use std::test::Fail;
+
+    // What `==` tells is known to its callers.
+    #[tactic(auto, using(crate::proofs::Deciding::equality))]
+    fn is_equal(left: &CfgExpr, right: &CfgExpr) -> bool
+        ensures { IsTrue result ↔ (left.now ≡ right.now) }
+    {
+        left == right
+    }
+
+    fn hash_of(expr: &CfgExpr) -> u64 {
+        let mut state = DefaultHasher::new();
+        expr.hash(&mut state);
+        state.finish()
+    }
+
+    fn flag(alloc: Global, name: &str) -> Result<CfgExpr, AllocError> {
+        Ok(CfgExpr::Atom(CfgAtom::Flag(Symbol::new(alloc, name)?)))
+    }
+
+    // `not(all(5, NAME, version("1.70")))`
+    fn nested(alloc: Global, name: &str) -> Result<CfgExpr, AllocError> {
+        let mut parts = Items::new(alloc);
+        parts.push(CfgExpr::Invalid)?;
+        parts.push(flag(alloc, name)?)?;
+        parts.push(CfgExpr::Version(Symbol::new(alloc, "1.70")?))?;
+        Ok(CfgExpr::Not(Boxed::new(alloc, CfgExpr::All(parts))?))
+    }
+
+    #[test]
+    fn copies_and_compares(rt: HostRuntime) -> Result<(), Fail> {
+        let original = nested(rt.alloc(), "a")?;
+        let copy = original.try_clone(rt.alloc())?;
+        assert!(rt; is_equal(&original, &copy));
+        assert_eq!(rt; hash_of(&original), hash_of(&copy));
+        let other = nested(rt.alloc(), "b")?;
+        assert!(rt; !is_equal(&original, &other));
+        assert!(rt; hash_of(&original) != hash_of(&other));
+        assert!(rt; CfgExpr::All(Items::new(rt.alloc())) != CfgExpr::Any(Items::new(rt.alloc())));
+        Ok(())
+    }
+
+    #[test]
+    fn folds_without_versions(rt: HostRuntime) -> Result<(), Fail> {
+        let a = flag(rt.alloc(), "a")?;
+        assert_eq!(rt; a.fold(&|_atom| true), Some(true));
+        assert_eq!(rt; a.fold(&|_atom| false), Some(false));
+        let version = CfgExpr::Version(Symbol::new(rt.alloc(), "1.70")?);
+        assert_eq!(rt; version.fold(&|_atom| true), None);
+        Ok(())
+    }
 }

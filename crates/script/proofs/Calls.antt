@@ -12,11 +12,11 @@ use Rattle.text_cut.proofs.Pieces.{furthest, one_reading}
 use Rattle.text_cut.proofs.Longer.{spelled_before, reach_longer}
 use Rattle.text_cut.proofs.SoFar.{so_far_begins, so_far_more}
 use Rattle.ra_cfg.specs.declared.cfg_expr.CfgExpr.{CfgExpr}
-use Rattle.ra_cfg.specs.Options.{Options, with_flag, only_true}
+use Rattle.ra_cfg.specs.Options.{Options, only_true}
 use Rattle.hir_lower.specs.declared.call.GatedCall.{GatedCall}
 use Rattle.hir_lower.specs.declared.call.Call.TheVariants.{Format}
 use Rattle.script.specs.declared.reading.Reading.{Reading}
-use Rattle.script.specs.Script.{Item, Blank, OptItem, CfgItem, FormatItem, IsItem, AreItems, AreCalls, BreaksAt, format_call, calls_behind, calls_of, options_with, options_of}
+use Rattle.script.specs.Script.{Item, Blank, OptionItem, PredicateItem, FormatItem, IsItem, AreItems, AreCalls, BreaksAt, format_call, changed, calls_behind, calls_of, options_with, options_of}
 use Rattle.script.specs.ReadItem.{item_at}
 use Rattle.script.specs.ReadCalls.{no_state, waiting_behind, GoesOn, IsEmpty, HasRead, ReadSoFar, StopsBehind, IsValidFront}
 use Rattle.script.proofs.Items.{items_read, steps_by, ignores_rest, item_further}
@@ -25,17 +25,17 @@ use Rattle.script.proofs.Items.{items_read, steps_by, ignores_rest, item_further
 options_more : (o : Options) (values more : List Item) → options_with o (values ++ more) ≡ options_with (options_with o values) more
 options_more o [] more = refl
 options_more o (Blank ∷ values) more = options_more o values more
-options_more o (OptItem name ∷ values) more = options_more (with_flag o name) values more
-options_more o (CfgItem predicate ∷ values) more = options_more o values more
-options_more o (FormatItem token leaves ∷ values) more = options_more o values more
+options_more o (OptionItem change ∷ values) more = options_more (changed o change) values more
+options_more o (PredicateItem predicate ∷ values) more = options_more o values more
+options_more o (FormatItem call ∷ values) more = options_more o values more
 
 -- the predicates that wait behind items and more items
 waiting_more : (waiting : List CfgExpr) (values more : List Item) → waiting_behind waiting (values ++ more) ≡ waiting_behind (waiting_behind waiting values) more
 waiting_more waiting [] more = refl
 waiting_more waiting (Blank ∷ values) more = waiting_more waiting values more
-waiting_more waiting (OptItem name ∷ values) more = waiting_more waiting values more
-waiting_more waiting (CfgItem predicate ∷ values) more = waiting_more (waiting ++ predicate ∷ []) values more
-waiting_more waiting (FormatItem token leaves ∷ values) more = waiting_more [] values more
+waiting_more waiting (OptionItem change ∷ values) more = waiting_more waiting values more
+waiting_more waiting (PredicateItem predicate ∷ values) more = waiting_more (waiting ++ predicate ∷ []) values more
+waiting_more waiting (FormatItem call ∷ values) more = waiting_more [] values more
 
 -- the calls of items and of more items
 calls_more : (number : ℕ) (waiting : List CfgExpr) (values more : List Item) → calls_behind number waiting (values ++ more) ≡ calls_behind number waiting values ++ calls_behind (length (calls_behind number waiting values) + number) (waiting_behind waiting values) more
@@ -44,12 +44,12 @@ calls_more number waiting [] more = ap (λ n. calls_behind n waiting more) (same
     same : (n : ℕ) → n ≡ 0 + n
     same n = omega arith
 calls_more number waiting (Blank ∷ values) more = calls_more number waiting values more
-calls_more number waiting (OptItem name ∷ values) more = calls_more number waiting values more
-calls_more number waiting (CfgItem predicate ∷ values) more = calls_more number (waiting ++ predicate ∷ []) values more
-calls_more number waiting (FormatItem token leaves ∷ values) more =
-    let call : GatedCall = record { cfgs = waiting; call = Format (format_call number token leaves) } in
+calls_more number waiting (OptionItem change ∷ values) more = calls_more number waiting values more
+calls_more number waiting (PredicateItem predicate ∷ values) more = calls_more number (waiting ++ predicate ∷ []) values more
+calls_more number waiting (FormatItem call ∷ values) more =
+    let gated : GatedCall = record { cfgs = waiting; call = Format (format_call number call) } in
     let calls = calls_behind (suc number) [] values in
-    ap (λ l. call ∷ l) (calls_more (suc number) [] values more ∙ ap (λ n. calls ++ calls_behind n (waiting_behind [] values) more) (next (length calls) number))
+    ap (λ l. gated ∷ l) (calls_more (suc number) [] values more ∙ ap (λ n. calls ++ calls_behind n (waiting_behind [] values) more) (next (length calls) number))
   where
     next : (count n : ℕ) → count + suc n ≡ suc count + n
     next count n = omega arith
@@ -70,9 +70,9 @@ has_read_more old new values more has goes = record {
 -- an item gives one call at most
 one_call : (number : ℕ) (waiting : List CfgExpr) (v : Item) → length (calls_behind number waiting (v ∷ [])) ≤ 1
 one_call number waiting Blank = omega arith
-one_call number waiting (OptItem name) = omega arith
-one_call number waiting (CfgItem predicate) = omega arith
-one_call number waiting (FormatItem token leaves) = omega arith
+one_call number waiting (OptionItem name) = omega arith
+one_call number waiting (PredicateItem predicate) = omega arith
+one_call number waiting (FormatItem call) = omega arith
 
 -- there are no more calls than bytes were passed
 pub few_calls : (old new : Reading) (here : Place) (v : Item) (e : Place) → length old.calls.items ≤ here.at → item_at here ≡ Some (v, e) → GoesOn old (v ∷ []) new → length new.calls.items ≤ e.at

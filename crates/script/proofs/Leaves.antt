@@ -1,54 +1,22 @@
 -- Leaves: what stands in a text is found there, and what is found stands there.
-use Rattle.std.proofs.Common.{◌≡◌, ℕ, zero, suc, ◌+◌, ◌≤◌, ◌<◌, true, false, cond, List, [], ◌∷◌, ◌++◌, length, map, Option, Some, None, refl, ap, ◌∙◌, sym, subst, append_assoc, append-nil, length-append, nat_le, arith}
+use Rattle.std.proofs.Common.{◌≡◌, ℕ, zero, suc, ◌+◌, ◌≤◌, ◌<◌, false, List, [], ◌∷◌, ◌++◌, length, map, Option, Some, None, refl, ap, ◌∙◌, sym, subst, append_assoc, append-nil, length-append, arith}
 use Rattle.std.specs.Option.{option_map, option_and_then}
-use Rattle.std.specs.Str.Parse.{digits_value}
 use Rattle.std.specs.Char.{is_ascii_digit}
-use Rattle.std.proofs.lemmas.Bool.Decides.{nat_tests}
 use Rattle.std.proofs.lemmas.List.{map-append}
-use Rattle.std.proofs.lemmas.Option.{option_and_then_some, same_Some}
-use Rattle.text_cut.specs.Runs.{starts, front, size, AllPass, is_blank}
+use Rattle.std.proofs.lemmas.Option.{option_and_then_some}
+use Rattle.text_cut.specs.Runs.{starts, front, size, is_blank}
 use Rattle.text_cut.specs.Place.{Place, place, past, Took}
 use Rattle.text_cut.specs.Reading.{Spelled, texts, items, AreSpelled}
 use Rattle.text_cut.proofs.Sizes.{size_append}
-use Rattle.text_cut.proofs.Runs.{front_of, front_is}
+use Rattle.text_cut.proofs.Runs.{front_is}
 use Rattle.text_cut.proofs.Rules.{took_none, took_both, past_is}
 use Rattle.text_cut.proofs.Options.{mapped, chosen, none_some}
-use Rattle.syn_trees.specs.declared.format_call.FormatArgSyntax.{FormatArgSyntax}
-use Rattle.script.specs.Script.{continues_word, argument, IsLeaf}
-use Rattle.script.specs.ReadItem.{leaf_of, AreArguments, past_spaced, number_of, number_behind, number_at, leaf_at, leaf_then, leaves_within, leaves_at}
-use Rattle.script.proofs.Characters.{digits_end}
-use Rattle.script.proofs.Strings.{RunAndWord, past_run, run_then, run_then_is}
-
--- digits of a number of 32 bits write it
-pub number_of_found : (digits : List ℕ) → 0 < length digits → digits_value 10 digits ≤ 4294967295 → number_of digits ≡ Some (digits_value 10 digits)
-number_of_found [] some small = absurd (omega arith)
-number_of_found (d ∷ digits) some small = rw (passes (digits_value 10 (d ∷ digits)) small) refl
-  where
-    passes : (n : ℕ) → n ≤ 4294967295 → nat_le n 4294967295 ≡ true
-    passes n small = grind (arith, nat_tests)
-
--- digits write a number of 32 bits
-pub record IsNumber (digits : List ℕ) (n : ℕ) : Type 0 where
-  pub some : 0 < length digits
-  pub value : n ≡ digits_value 10 digits
-  pub small : n ≤ 4294967295
-
-pub number_of_is : (digits : List ℕ) (n : ℕ) → number_of digits ≡ Some n → IsNumber digits n
-number_of_is [] n e = absurd (none_some n e)
-number_of_is (d ∷ digits) n e = chosen (nat_le (digits_value 10 (d ∷ digits)) 4294967295) (Some (digits_value 10 (d ∷ digits))) None (Some n) e
-    (λ small same. record { some = omega arith; value = sym (same_Some _ _ same); small = is_small (digits_value 10 (d ∷ digits)) n small (same_Some _ _ same) })
-    (λ other none. absurd (none_some n none))
-  where
-    is_small : (m n : ℕ) → nat_le m 4294967295 ≡ true → m ≡ n → n ≤ 4294967295
-    is_small m n small same = grind (arith, nat_tests)
-
--- a number is found
-number_found : (digits rest : List ℕ) (at : ℕ) → 0 < length digits → AllPass is_ascii_digit digits → digits_value 10 digits ≤ 4294967295 → starts continues_word rest ≡ false → number_at (place at (digits ++ rest)) ≡ Some (digits_value 10 digits, place (at + size digits) rest)
-number_found digits rest at some pass small ends =
-    ap (λ e. number_behind (front is_ascii_digit (digits ++ rest)) e) (past_run is_ascii_digit digits rest at pass (digits_end rest ends))
-    ∙ (ap (λ l. number_behind l (place (at + size digits) rest)) (front_of is_ascii_digit digits rest (record { pass = pass; stops = digits_end rest ends }))
-    ∙ (ap (λ b. cond b None (option_map (λ (n : ℕ). (n, place (at + size digits) rest)) (number_of digits))) ends
-    ∙ ap (λ o. option_map (λ (n : ℕ). (n, place (at + size digits) rest)) o) (number_of_found digits some small)))
+use Rattle.script_tokens.specs.Words.{continues_word}
+use Rattle.script_tokens.specs.ReadTokens.{past_spaced, number_of, number_at}
+use Rattle.script_tokens.proofs.Digits.{IsNumber, number_of_is, number_found}
+use Rattle.script_tokens.proofs.Strings.{RunAndWord, run_then, run_then_is}
+use Rattle.script.specs.Bodies.{IsLeaf}
+use Rattle.script.specs.ReadBodies.{leaf_at, leaf_then, leaves_within, leaves_at}
 
 -- a leaf is found
 leaf_found : (front : List (Spelled ℕ)) (text : List ℕ) (n : ℕ) (rest : List ℕ) (at : ℕ) → IsLeaf front text n rest → leaf_at (place at (text ++ rest)) ≡ Some (n, place (at + size text) rest)
@@ -86,7 +54,7 @@ leaves_before front (s ∷ ss) rest other ends are = (
 )
 
 -- no leaf is found where a line ends
-none_at : (p : Place) (most : ℕ) → leaf_at p ≡ None → leaves_within most p ≡ ([], p)
+pub none_at : (p : Place) (most : ℕ) → leaf_at p ≡ None → leaves_within most p ≡ ([], p)
 none_at p zero none = refl
 none_at p (suc most) none = ap (λ o. leaf_then o (λ e. leaves_within most e) p) none
 
@@ -181,7 +149,7 @@ pub leaves_begin : (start : Place) → LeavesSoFar start [] start
 leaves_begin start = record { most = length start.left; enough = omega arith; same = refl }
 
 -- one more leaf is read
-leaves_more : (start : Place) (leaves : List ℕ) (here : Place) (n : ℕ) (e : Place) → Some (n, e) ≡ leaf_at here → LeavesSoFar start leaves here → LeavesSoFar start (leaves ++ n ∷ []) e
+pub leaves_more : (start : Place) (leaves : List ℕ) (here : Place) (n : ℕ) (e : Place) → Some (n, e) ≡ leaf_at here → LeavesSoFar start leaves here → LeavesSoFar start (leaves ++ n ∷ []) e
 leaves_more start leaves here n e found so_far = by_most so_far.most so_far.enough so_far.same
   where
     is : LeafIs here (n, e)
@@ -195,20 +163,3 @@ leaves_more start leaves here n e found so_far = by_most so_far.most so_far.enou
       same = same ∙ (ap (λ (o : Option (ℕ × Place)). (leaves ++ (leaf_then o (λ e. leaves_within most e) here).0, (leaf_then o (λ e. leaves_within most e) here).1)) (sym found)
           ∙ ap (λ l. (l, (leaves_within most e).1)) (sym (append_assoc leaves (n ∷ []) (leaves_within most e).0)));
     }
-
--- arguments of a call, and one more
-pub arguments_more : (number : ℕ) (args : List FormatArgSyntax) (leaf : ℕ) → AreArguments number args → AreArguments number (args ++ argument number leaf ∷ [])
-arguments_more number args leaf are =
-    ap (λ l. l ++ argument number leaf ∷ []) are
-    ∙ (sym (map-append (argument number) (map leaf_of args) (leaf ∷ []))
-    ∙ ap (λ l. map (argument number) l) (sym (map-append leaf_of args (argument number leaf ∷ []))))
-
--- one more leaf is read as an argument
-pub leaves_read : (start : Place) (args : List FormatArgSyntax) (here : Place) (number n : ℕ) (e : Place) → Some (n, e) ≡ leaf_at here → LeavesSoFar start (map leaf_of args) here → LeavesSoFar start (map leaf_of (args ++ argument number n ∷ [])) e
-leaves_read start args here number n e found so_far =
-    subst (λ l. LeavesSoFar start l e) (sym (map-append leaf_of args (argument number n ∷ []))) (leaves_more start (map leaf_of args) here n e found so_far)
-
--- no more leaf is read
-pub leaves_end : (start : Place) (leaves : List ℕ) (here : Place) → leaf_at here ≡ None → LeavesSoFar start leaves here → (leaves, here) ≡ leaves_at start
-leaves_end start leaves here none so_far =
-    sym (so_far.same ∙ (ap (λ (r : List ℕ × Place). (leaves ++ r.0, r.1)) (none_at here so_far.most none) ∙ ap (λ l. (l, here)) (append-nil leaves)))

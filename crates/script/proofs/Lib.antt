@@ -1,11 +1,10 @@
-pub mod Characters
-pub mod Strings
 pub mod Placeholders
 pub mod Leaves
-pub mod Numbers
-pub mod Names
+pub mod Arguments
+pub mod Words
+pub mod Lines
+pub mod Bodies
 pub mod Items
 pub mod Calls
-pub mod Words
 pub mod Ends
 pub mod OneScript

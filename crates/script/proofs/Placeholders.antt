@@ -11,7 +11,7 @@ use Rattle.hir_lower.specs.Pieces.{is_brace, placeholders, HasPieces}
 use Rattle.hir_lower.specs.Parts.{brace_part, with_part, parts_of, parts_from, pieces_from, holes}
 use Rattle.hir_lower.proofs.Parts.{HasParts, parts_found, parts_are}
 use Rattle.hir_lower.proofs.PlainPairs.{placeholders-pieces_from}
-use Rattle.script.specs.ReadItem.{first_of, is_placeholder, holes_in, holes_of}
+use Rattle.script.specs.ReadBodies.{first_of, is_placeholder, holes_in, holes_of}
 use Rattle.syn_trees.proofs.Values.{value_found, value_is, value_none}
 
 -- the placeholders of a text with pieces are counted

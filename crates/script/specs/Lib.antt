@@ -1,5 +1,9 @@
+pub mod Line
+pub mod Bodies
+pub mod ReadBodies
 pub mod Script
 pub mod ReadItem
+pub mod ItemOf
 pub mod ReadCalls
 pub mod Fault
 pub mod Laws

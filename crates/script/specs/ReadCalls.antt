@@ -6,7 +6,7 @@ use Rattle.text_cut.specs.Reading.{Spelled, SoFar}
 use Rattle.ra_cfg.specs.declared.cfg_expr.CfgExpr.{CfgExpr}
 use Rattle.ra_cfg.specs.Options.{only_true}
 use Rattle.script.specs.declared.reading.Reading.{Reading}
-use Rattle.script.specs.Script.{Item, Blank, OptItem, CfgItem, FormatItem, IsItem, calls_behind, calls_of, options_with}
+use Rattle.script.specs.Script.{Item, Blank, OptionItem, PredicateItem, FormatItem, IsItem, calls_behind, calls_of, options_with}
 use Rattle.script.specs.ReadItem.{item_at}
 
 -- nothing is remembered from item to item
@@ -17,9 +17,9 @@ no_state front = tt
 abbrev pub waiting_behind : List CfgExpr → List Item → List CfgExpr
 waiting_behind waiting [] = waiting
 waiting_behind waiting (Blank ∷ more) = waiting_behind waiting more
-waiting_behind waiting (OptItem name ∷ more) = waiting_behind waiting more
-waiting_behind waiting (CfgItem predicate ∷ more) = waiting_behind (waiting ++ predicate ∷ []) more
-waiting_behind waiting (FormatItem token leaves ∷ more) = waiting_behind [] more
+waiting_behind waiting (OptionItem change ∷ more) = waiting_behind waiting more
+waiting_behind waiting (PredicateItem predicate ∷ more) = waiting_behind (waiting ++ predicate ∷ []) more
+waiting_behind waiting (FormatItem call ∷ more) = waiting_behind [] more
 
 -- behind what was read, items give this
 pub record GoesOn (old : Reading) (values : List Item) (new : Reading) : Type 0 where

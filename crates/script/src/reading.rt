@@ -1,13 +1,12 @@
 ghost use Rattle.std.specs.Prelude.{◌≡◌, ◌≤◌, [], ◌∷◌, IfOk, OnOk, length, map};
-ghost use Rattle.ra_cfg.specs.declared.cfg_expr.CfgAtom.TheVariants.{Flag};
-ghost use Rattle.ra_cfg.specs.declared.cfg_expr.CfgExpr.{Atom};
-ghost use Rattle.script.specs.Script.{OptItem, CfgItem, FormatItem};
-ghost use Rattle.script.specs.ReadItem.{item_of, AreArguments, IsNumbered, leaf_of};
+ghost use Rattle.script.specs.Bodies.{SetFlag, SetPair, SetVersion};
+ghost use Rattle.script.specs.Script.{OptionItem, PredicateItem, FormatItem};
+ghost use Rattle.script.specs.ItemOf.{item_of, AreArguments, IsNumbered, leaf_of};
 ghost use Rattle.script.specs.ReadCalls.{IsEmpty, GoesOn};
 
 use crate::item::ScriptItem;
 use hir_lower::{Call, GatedCall};
-use ra_cfg::{CfgAtom, CfgExpr, CfgOptions};
+use ra_cfg::{CfgExpr, CfgOptions};
 use sqlite_items::Items;
 use std::alloc::{AllocError, Global};
 use std::mem;
@@ -38,21 +37,36 @@ impl Reading {
         })
     }
 
-    // Puts an option in.
-    fn set_option(&mut self, alloc: Global, name: &str) -> Result<(), AllocError>
-        ensures { OnOk result (GoesOn self.old (OptItem name.now ∷ []) self.new) }
+    // Puts a flag in.
+    fn set_flag(&mut self, alloc: Global, name: &str) -> Result<(), AllocError>
+        ensures { OnOk result (GoesOn self.old (OptionItem (SetFlag name.now) ∷ []) self.new) }
     {
         let key = Symbol::new(alloc, name)?;
         self.options.insert_atom(key)?;
         Ok(())
     }
 
-    // Lets a predicate wait for the next call.
-    fn push_predicate(&mut self, alloc: Global, name: &str) -> Result<(), AllocError>
-        ensures { OnOk result (GoesOn self.old (CfgItem (Atom (Flag name.now)) ∷ []) self.new) }
+    // Puts a key with a value in.
+    fn set_pair(&mut self, alloc: Global, key: &str, value: Symbol) -> Result<(), AllocError>
+        ensures { OnOk result (GoesOn self.old (OptionItem (SetPair key.now value) ∷ []) self.new) }
     {
-        let key = Symbol::new(alloc, name)?;
-        self.waiting.push(CfgExpr::Atom(CfgAtom::Flag(key)))
+        let key = Symbol::new(alloc, key)?;
+        self.options.insert_key_value(key, value)?;
+        Ok(())
+    }
+
+    // Gives a version an answer.
+    fn set_version(&mut self, text: Symbol, answer: bool) -> Result<(), AllocError>
+        ensures { OnOk result (GoesOn self.old (OptionItem (SetVersion text answer) ∷ []) self.new) }
+    {
+        self.options.set_version(text, answer)
+    }
+
+    // Lets a predicate wait for the next call.
+    fn push_predicate(&mut self, predicate: CfgExpr) -> Result<(), AllocError>
+        ensures { OnOk result (GoesOn self.old (PredicateItem predicate ∷ []) self.new) }
+    {
+        self.waiting.push(predicate)
     }
 
     /// The pointer of the next call: the number of the calls so far.
@@ -75,7 +89,7 @@ impl Reading {
     ) -> Result<(), AllocError>
         requires next { ptr.node ≡ length self.old.calls.items }
         requires numbered { AreArguments ptr.node args }
-        ensures { OnOk result (GoesOn self.old (FormatItem literal (map leaf_of args) ∷ []) self.new) }
+        ensures { OnOk result (GoesOn self.old (FormatItem (record { token = literal; leaves = map leaf_of args }) ∷ []) self.new) }
     {
         let cfgs = mem::replace(&mut self.waiting, Items::new(alloc));
         self.calls.push(GatedCall {
@@ -103,8 +117,10 @@ impl Reading {
     {
         match item {
             ScriptItem::Blank => Ok(()),
-            ScriptItem::OptItem(name) => self.set_option(alloc, name),
-            ScriptItem::CfgItem(name) => self.push_predicate(alloc, name),
+            ScriptItem::Flag(name) => self.set_flag(alloc, name),
+            ScriptItem::Pair { key, value } => self.set_pair(alloc, key, value),
+            ScriptItem::Version { text, answer } => self.set_version(text, answer),
+            ScriptItem::Predicate(predicate) => self.push_predicate(predicate),
             ScriptItem::Format { literal, args } => self.push_format(alloc, ptr, literal, args),
         }
     }

@@ -276,7 +276,7 @@ mod tests {
             (b"optb", "line 1"),
             (b"opt a b", "line 1"),
             (b"opt \n", "line 1"),
-            (b"cfg 1a", "line 1"),
+            (b"cfg 1a", ""),
             (b"cfg h\xc3\xa9", ""),
             (b"opt a\n cfg\ta \r\nformat \"x\"", "a \"x\"\n"),
             (b"cfg a\n\ncfg b\nformat \"x\"", "a b \"x\"\n"),

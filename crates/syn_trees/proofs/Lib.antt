@@ -8,3 +8,4 @@ pub mod Unescaped
 mod EscapeExamples
 pub mod Literals
 pub mod Values
+pub mod Quotes

@@ -4,3 +4,4 @@ pub mod Literal
 pub mod ReadString
 pub mod Trees
 pub mod Laws
+pub mod ReadQuoted

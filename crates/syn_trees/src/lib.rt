@@ -6,6 +6,7 @@ mod asm_call;
 mod cfg_predicate;
 mod escape;
 mod format_call;
+mod inside;
 mod laws;
 mod quoted;
 mod string_lit;
@@ -18,6 +19,7 @@ pub use asm_call::{
 };
 pub use cfg_predicate::{CfgAtomKey, CfgPredicate};
 pub use format_call::{FormatArgSyntax, FormatCall, LeafSyntax, MacroCallSrc, Template};
+pub use inside::quoted_text;
 pub use laws::{one_value, tokens_are_read};
 pub use quoted::string_token;
 pub use string_lit::{EscapeError, StringLit};

@@ -9,3 +9,4 @@ pub mod Pieces
 pub mod Longer
 pub mod SoFar
 pub mod Whole
+pub mod Many

@@ -4,3 +4,4 @@ pub mod Rules
 pub mod Reading
 pub mod Seen
 pub mod Whole
+pub mod Many

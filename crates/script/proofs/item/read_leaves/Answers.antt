@@ -1,7 +1,8 @@
 use Rattle.std.proofs.Common.{◌∙◌, ap, ◌++◌, [], ◌∷◌, map, sym, subst, arith}
 use Rattle.text_cut.specs.Seen.{seen}
-use Rattle.script.specs.ReadItem.{leaf_of, AreArguments}
-use Rattle.script.proofs.Leaves.{LeavesSoFar, arguments_more, leaves_read}
+use Rattle.script.specs.ItemOf.{leaf_of, AreArguments}
+use Rattle.script.proofs.Leaves.{LeavesSoFar}
+use Rattle.script.proofs.Arguments.{arguments_more, leaves_read}
 use Rattle.script.proofs.item.read_leaves.Goals as goal
 
 pub loop-number-preserved : goal.loop-number-preserved

@@ -1,6 +1,6 @@
 use Rattle.std.proofs.Common.{◌≤◌, length, map}
 use Rattle.text_cut.specs.Seen.{seen}
-use Rattle.script.specs.ReadItem.{leaf_of, AreArguments}
+use Rattle.script.specs.ItemOf.{leaf_of, AreArguments}
 use Rattle.script.proofs.Leaves.{LeavesSoFar}
 use Rattle.script.proofs.item.read_leaves.Given as goal
 

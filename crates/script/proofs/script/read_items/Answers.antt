@@ -1,6 +1,7 @@
 use Rattle.std.proofs.Common.{◌≡◌, Some, option_map, ap, ◌∙◌, sym}
 use Rattle.text_cut.specs.Seen.{seen}
-use Rattle.script.specs.ReadItem.{item_of, item_at}
+use Rattle.script.specs.ReadItem.{item_at}
+use Rattle.script.specs.ItemOf.{item_of}
 use Rattle.script.proofs.Calls.{reading_goes_on, few_calls}
 use Rattle.script.proofs.script.read_items.Goals as goal
 

@@ -1,6 +1,6 @@
 use Rattle.std.proofs.Common.{◌≡◌, ◌+◌, ◌≤◌, length}
 use Rattle.std.specs.Str.{chars}
-use Rattle.script.specs.ReadItem.{holes_in}
+use Rattle.script.specs.ReadBodies.{holes_in}
 use Rattle.script.proofs.Placeholders.{holes_with}
 use Rattle.script.proofs.tokens.count_placeholders.Given as goal
 

@@ -1,7 +1,7 @@
 use Rattle.std.proofs.Common.{ap, sym, ◌∙◌}
 use Rattle.std.specs.FinSet as set
 use Rattle.ra_cfg.specs.Options.{Options}
-use Rattle.ra_cfg.proofs.OptionSets.{atom_total}
+use Rattle.ra_cfg.specs.AtomOrder.{atom_total}
 use Rattle.ra_cfg.proofs.cfg_options.CfgOptions.check_atom.Goals as goal
 
 pub returns : goal.returns

@@ -1,0 +1,10 @@
+pub mod Complete
+pub mod Sound
+pub mod Raw
+pub mod Starts
+pub mod Tokens
+pub mod Preds
+pub mod SoFar
+pub mod Words
+pub mod Frames
+pub mod Before

@@ -1,0 +1,121 @@
+ghost use Rattle.std.specs.Prelude.{◌≡◌, ◌+◌, ◌≤◌, [], ◌∷◌, IfSome, length, chars, option_map};
+ghost use Rattle.text_cut.specs.Runs.{starts};
+ghost use Rattle.text_cut.specs.Place.{past};
+ghost use Rattle.text_cut.specs.Rules.{past_word};
+ghost use Rattle.text_cut.specs.Seen.{seen};
+ghost use Rattle.std.specs.Char.{is_ascii_digit};
+ghost use Rattle.syn_trees.specs.Literal.{IsLiteral};
+ghost use Rattle.script_tokens.specs.Words.{begins_word, continues_word};
+ghost use Rattle.script_tokens.specs.ReadTokens.{past_line, past_comment, past_keyword, word_at, string_at, number_at};
+
+use syn_trees::string_token;
+use text_cut::{Cursor, begins_with, blanks, run, starts_with, text_between, word};
+use unicode_ident::{is_xid_continue, is_xid_start};
+
+/// Returns the place behind a line feed; `None` where none stands here.
+#[tactic(auto, using(crate::proofs::Words::words))]
+pub fn line_feed(here: Cursor<'_>) -> Option<Cursor<'_>>
+    ensures value { option_map seen result ≡ past_word (10 ∷ []) (seen here.entry) }
+    ensures shorter { IfSome result (λ e. length e.rest.now + 1 ≤ length here.entry.rest.now) }
+{
+    word(here, "\n")
+}
+
+/// Returns the place behind a comment, `#` and all up to the end of its line; where there is none, the place itself.
+pub fn comment(here: Cursor<'_>) -> Cursor<'_>
+    ensures value { seen result ≡ past_comment (seen here.entry) }
+    ensures shorter { length result.rest.now ≤ length here.entry.rest.now }
+{
+    if !starts_with(here, '#') {
+        return here;
+    }
+    run(here, |c| c != '\n')
+}
+
+// Whether a character that goes on a word stands here.
+fn continues_word(here: Cursor<'_>) -> bool
+    ensures { result ≡ starts continues_word (seen here.entry).left }
+{
+    begins_with(here, |c| is_xid_continue(c))
+}
+
+/// Returns the place behind a keyword that stands here as a whole word; `None` where it does not.
+pub fn keyword<'a>(here: Cursor<'a>, text: &str) -> Option<Cursor<'a>>
+    ensures value { option_map seen result ≡ past_keyword (chars text.now) (seen here.entry) }
+    ensures shorter { IfSome result (λ e. length e.rest.now + length (chars text.now) ≤ length here.entry.rest.now) }
+{
+    let behind = word(here, text)?;
+    if continues_word(behind) {
+        return None;
+    }
+    Some(behind)
+}
+
+/// Returns the place behind blanks and a line feed; `None` where something else stands here.
+pub fn line_end(here: Cursor<'_>) -> Option<Cursor<'_>>
+    ensures value { option_map seen result ≡ past_line (seen here.entry) }
+    ensures shorter { IfSome result (λ e. length e.rest.now + 1 ≤ length here.entry.rest.now) }
+{
+    line_feed(blanks(here))
+}
+
+// Whether a character that begins a word stands here.
+fn begins_word(here: Cursor<'_>) -> bool
+    ensures { result ≡ starts begins_word (seen here.entry).left }
+{
+    begins_with(here, |c| is_xid_start(c) || c == '_')
+}
+
+// The place behind the characters that go on a word.
+fn word_end(here: Cursor<'_>) -> Cursor<'_>
+    ensures value { seen result ≡ past continues_word (seen here.entry) }
+    ensures shorter { length result.rest.now ≤ length here.entry.rest.now }
+{
+    run(here, |c| is_xid_continue(c))
+}
+
+/// Returns the word that stands here, as long as it goes on, and the place behind it; `None` where none begins here.
+pub fn plain_word<'a>(here: Cursor<'a>) -> Option<(&'a str, Cursor<'a>)>
+    ensures value { option_map (λ r. (r.0.now, seen r.1)) result ≡ word_at (seen here.entry) }
+    ensures shorter { IfSome result (λ r. length r.1.rest.now ≤ length here.entry.rest.now) }
+{
+    if !begins_word(here) {
+        return None;
+    }
+    let end = word_end(here);
+    Some((text_between(here, end), end))
+}
+
+/// Returns the string token behind blanks, with its quotes, and the place behind it; `None` where none stands there.
+pub fn string<'a>(here: Cursor<'a>) -> Option<(&'a str, Cursor<'a>)>
+    ensures value { option_map (λ r. (r.0.now, seen r.1)) result ≡ string_at (seen here.entry) }
+    ensures literal { IfSome result (λ r. IsLiteral r.0.now) }
+    ensures shorter { IfSome result (λ r. length r.1.rest.now + 1 ≤ length here.entry.rest.now) }
+{
+    let begin = blanks(here);
+    let end = string_token(begin)?;
+    Some((text_between(begin, end), end))
+}
+
+// The place behind the digits that stand here.
+fn digits_end(here: Cursor<'_>) -> Cursor<'_>
+    ensures value { seen result ≡ past is_ascii_digit (seen here.entry) }
+    ensures shorter { length result.rest.now ≤ length here.entry.rest.now }
+{
+    run(here, |c| c.is_ascii_digit())
+}
+
+/// Returns the number of 32 bits that digits write here, with nothing that goes on a word behind them, and the place behind it.
+pub fn number(here: Cursor<'_>) -> Option<(u32, Cursor<'_>)>
+    ensures value { option_map (λ r. (r.0, seen r.1)) result ≡ number_at (seen here.entry) }
+    ensures shorter { IfSome result (λ r. length r.1.rest.now ≤ length here.entry.rest.now) }
+{
+    let end = digits_end(here);
+    if continues_word(end) {
+        return None;
+    }
+    match text_between(here, end).parse::<u32>() {
+        Ok(number) => Some((number, end)),
+        Err(_) => None,
+    }
+}

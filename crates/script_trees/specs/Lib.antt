@@ -1,0 +1,5 @@
+pub mod Tokens
+pub mod Grouped
+pub mod Trees
+pub mod ReadTrees
+pub mod Laws
