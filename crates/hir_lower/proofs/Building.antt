@@ -15,6 +15,7 @@ use Rattle.hir_store.specs.Tree.{Tree, Steps, Ref, Let, is_whole}
 use Rattle.hir_store.specs.Unfolding.{tree_over}
 use Rattle.hir_store.specs.Store.{Grows, Stands, AllStand, IsPlaced}
 use Rattle.hir_store.specs.Makes.{StepsMake, Makes}
+use Rattle.hir_store.proofs.Defined.{defined_still}
 use Rattle.hir_store.proofs.Grown.{grows_self, grows_on, stands_later, names_kept}
 use Rattle.code_meaning.specs.Write.{Display}
 use Rattle.hir_lower.specs.declared.error.LowerError.{LowerError}
@@ -27,11 +28,11 @@ use Rattle.hir_lower.specs.Building.{Builds, Outgrows, IsLet, AreLets, AreArgume
 -- Builds
 
 pub builds_none : (store : ExpressionStore) → Builds store store 0 0
-builds_none store = record { grows = grows_self store; placed = λ p. p; exprs = omega arith; pats = omega arith; bindings = omega arith }
+builds_none store = record { grows = grows_self store; placed = λ p. p; defined = λ d. d; exprs = omega arith; pats = omega arith; bindings = omega arith }
 
 -- expressions alone
 pub builds_still : {old new : ExpressionStore} {most : ℕ} → Grows old new → new.pats ≡ old.pats → new.bindings ≡ old.bindings → (IsPlaced old → IsPlaced new) → length new.exprs ≤ length old.exprs + most → Builds old new most 0
-builds_still grows pats bindings kept count = record { grows = grows; placed = kept; exprs = count; pats = omega (arith, ap length pats); bindings = omega (arith, ap length bindings) }
+builds_still grows pats bindings kept count = record { grows = grows; placed = kept; defined = defined_still pats bindings; exprs = count; pats = omega (arith, ap length pats); bindings = omega (arith, ap length bindings) }
 
 -- an expression whose parts stand
 pub builds_one : (old new : ExpressionStore) (e : Expr) (t : Tree) → Makes old e t → Grows old new → new.pats ≡ old.pats → new.bindings ≡ old.bindings → (IsPlaced old → IsTrue (is_whole (tree_over old e)) → IsPlaced new) →
@@ -43,6 +44,7 @@ pub builds_then : {a b c : ExpressionStore} {most lets more others : ℕ} → Bu
 builds_then {a} {b} {c} first second = record {
   grows = grows_on a b c first.grows second.grows;
   placed = λ p. second.placed (first.placed p);
+  defined = λ d. second.defined (first.defined d);
   exprs = omega (arith, first.exprs, second.exprs);
   pats = omega (arith, first.pats, second.pats);
   bindings = omega (arith, first.bindings, second.bindings);
@@ -53,6 +55,7 @@ pub builds_within : {a b : ExpressionStore} {most lets sum all : ℕ} → Builds
 builds_within first le lets_le = record {
   grows = first.grows;
   placed = first.placed;
+  defined = first.defined;
   exprs = omega (arith, first.exprs, le);
   pats = omega (arith, first.pats, lets_le);
   bindings = omega (arith, first.bindings, lets_le);

@@ -12,3 +12,4 @@ pub mod Drafts
 mod FormatExamples
 pub mod Building
 mod PiecesExamples
+pub mod Lets

@@ -1,10 +1,11 @@
-ghost use Rattle.std.specs.Prelude.{◌≡◌, ◌≢◌, ℕ, false, ◌+◌, ◌*◌, ◌<◌, ◌≤◌, [], ◌∷◌, ◌++◌, length, drop, Some, IfOk};
+ghost use Rattle.std.specs.Prelude.{◌≡◌, ◌≢◌, ℕ, false, ◌+◌, ◌*◌, ◌<◌, ◌≤◌, [], ◌∷◌, ◌++◌, length, drop, Some, None, IfOk, OnErr};
 ghost use Rattle.sym_core.specs.declared.name.Name.{Name};
 ghost use Rattle.code_meaning.specs.Write.{Display};
 ghost use Rattle.hir_store.specs.Tree.{Tree, Steps, Path, Ref, Tuple, Field, Array, Call, Block, Empty, More, Let};
-ghost use Rattle.hir_store.specs.Unfolding.{place_of, name_in, binding_name};
+ghost use Rattle.hir_store.specs.Unfolding.{place_of};
 ghost use Rattle.hir_store.specs.declared.store.ExpressionStore.{ExpressionStore};
-ghost use Rattle.hir_store.specs.Store.{Grows, Stands, AllStand, IsPlaced};
+ghost use Rattle.hir_store.specs.Sources.{SameMaps};
+ghost use Rattle.hir_store.specs.Store.{Stands, AllStand, PlacesBinding, PlacesPat};
 ghost use Rattle.hir_store.specs.Makes.{StepsMake, Makes};
 ghost use Rattle.hir_store.specs.declared.lang_item.LangItem.TheVariants.{FormatArguments};
 ghost use Rattle.hir_store.specs.declared.lang_item.LangFn.TheVariants.{New};
@@ -162,12 +163,9 @@ fn place_elements(
 
 // Places a binding of a fresh name.
 fn bind(store: &mut ExpressionStore, number: u32) -> Result<BindingId, LowerError>
-    ensures named { IfOk result (λ id. binding_name store.new.bindings id ≡ Some (Name.Fresh number)) }
-    ensures grows { Grows store.old store.new }
-    ensures exprs { store.new.exprs ≡ store.old.exprs }
-    ensures patterns { store.new.pats ≡ store.old.pats }
-    ensures kept { IsPlaced store.old → IsPlaced store.new }
-    ensures count { length store.new.bindings ≤ length store.old.bindings + 1 }
+    ensures placed { IfOk result (λ id. PlacesBinding store.old (record { name = Name.Fresh number; definition = None }) id store.new) }
+    ensures maps { SameMaps store.old store.new }
+    ensures err { OnErr result (store.new ≡ store.old) }
     ensures full { result ≡ Err LowerError.ArenaFull → 4_294_967_295 < length store.old.bindings + 1 }
 {
     match store.alloc_binding(Name::Fresh(number)) {
@@ -179,12 +177,9 @@ fn bind(store: &mut ExpressionStore, number: u32) -> Result<BindingId, LowerErro
 
 // Places a pattern that binds.
 fn place_pat(store: &mut ExpressionStore, binding: BindingId) -> Result<PatId, LowerError>
-    ensures named { IfOk result (λ id. name_in store.new id ≡ binding_name store.old.bindings binding) }
-    ensures grows { Grows store.old store.new }
-    ensures exprs { store.new.exprs ≡ store.old.exprs }
-    ensures bindings { store.new.bindings ≡ store.old.bindings }
-    ensures kept { IsPlaced store.old → IsPlaced store.new }
-    ensures count { length store.new.pats ≤ length store.old.pats + 1 }
+    ensures placed { IfOk result (λ id. PlacesPat store.old (Pat.Bind binding) id store.new) }
+    ensures maps { SameMaps store.old store.new }
+    ensures err { OnErr result (store.new ≡ store.old) }
     ensures full { result ≡ Err LowerError.ArenaFull → 4_294_967_295 < length store.old.pats + 1 }
 {
     match store.alloc_pat(Pat::Bind(binding)) {
@@ -194,7 +189,7 @@ fn place_pat(store: &mut ExpressionStore, binding: BindingId) -> Result<PatId, L
     }
 }
 
-// A `let` that binds a fresh name.
+// A `let` that binds a fresh name, by a pattern and a binding of its own.
 fn place_let(
     store: &mut ExpressionStore,
     number: u32,
@@ -206,6 +201,7 @@ fn place_let(
 {
     let binding = bind(store, number)?;
     let pat = place_pat(store, binding)?;
+    store.add_definition_to_binding(binding, pat);
     Ok(Statement::Let { pat, initializer })
 }
 

@@ -1,6 +1,6 @@
 ghost use Rattle.std.specs.Prelude.{◌≡◌, ◌≢◌, ◌+◌, ◌<◌, ◌≤◌, [], ◌∷◌, ◌++◌, length, IfOk};
 ghost use Rattle.hir_store.specs.Unfolding.{place_of};
-ghost use Rattle.hir_store.specs.Store.{Grows, IsPlaced};
+ghost use Rattle.hir_store.specs.Store.{Grows, IsPlaced, IsEmptyStore, EachDefines};
 ghost use Rattle.hir_lower.specs.Building.{Builds, Outgrows};
 ghost use Rattle.hir_lower.specs.Lowered.{AreOutcomes, IsOutcome, IsCode, AreRising, IsFrom, IsInStore, AreInStore, most_of_call, most_of, most_exprs, lets_of, most_lets};
 ghost use Rattle.ra_cfg.specs.Reading.{is_off};
@@ -27,17 +27,15 @@ impl Model for ExprCollector {
 
     ghost view = { λ collector. record { store = collector.store } };
 
-    ghost use Rattle.hir_store.specs.Store.{IsPlaced};
+    ghost use Rattle.hir_store.specs.Store.{IsPlaced, EachDefines};
 
-    ghost invariant = { λ collector. IsPlaced collector.store };
+    ghost invariant = { λ collector. IsPlaced collector.store × EachDefines collector.store };
 }
 
 impl ExprCollector {
     /// A collector with an empty store, which takes no memory.
     pub fn new(alloc: Global) -> ExprCollector
-        ensures exprs { result.store.exprs ≡ [] }
-        ensures pats { result.store.pats ≡ [] }
-        ensures bindings { result.store.bindings ≡ [] }
+        ensures { IsEmptyStore result.store }
     {
         ExprCollector {
             store: ExpressionStore::new(alloc),
@@ -45,10 +43,14 @@ impl ExprCollector {
         }
     }
 
-    /// The store that was filled so far. In it every part of an expression stands before the whole.
+    /// The store that was filled so far.
+    ///
+    /// Whatever it names is in it: every part of an expression stands before the whole, and the maps name expressions
+    /// alone. Each pattern is the definition of the binding that it binds.
     pub fn store(&self) -> &ExpressionStore
         ensures value { result.now ≡ self.now.store }
         ensures placed { IsPlaced result.now }
+        ensures defined { EachDefines result.now }
     {
         &self.store
     }

@@ -1,7 +1,7 @@
 -- A store that grows keeps its names and its whole trees.
-use Rattle.std.proofs.Common.{◌≡◌, ◌+◌, ◌<◌, List, [], ◌∷◌, ◌++◌, length, reverse, slice_get, Some, None, Option, is_some, IsTrue, refl, sym, ap, ◌∙◌, subst, arith, length-append, append_assoc, ap₂, true≢false}
+use Rattle.std.proofs.Common.{◌≡◌, ◌+◌, ◌<◌, ◌≤◌, List, [], ◌∷◌, ◌++◌, length, reverse, map, slice_get, Some, None, Option, is_some, IsTrue, refl, sym, ap, ◌∙◌, subst, arith, length-append, append_assoc, ap₂, true≢false}
 use Rattle.std.proofs.lemmas.Option.{slice_get-map, slice_get_within}
-use Rattle.std.proofs.lemmas.List.{length-reverse}
+use Rattle.std.proofs.lemmas.List.{length-reverse, map-append}
 use Rattle.std.proofs.lemmas.Bool.{and_from}
 use Rattle.la_arena.specs.Idx.{number_of}
 use Rattle.sym_core.specs.declared.name.Name.{Name}
@@ -16,25 +16,36 @@ use Rattle.hir_store.specs.declared.store.ExpressionStore.{ExpressionStore}
 use Rattle.hir_store.specs.Tree.{Tree, Trees, Empty, More, trees, is_whole, all_whole}
 use Rattle.hir_store.specs.Unfolding.{place_of, binding_name, bound_name, name_in, node, trees_of, tree_in, tree_at, tree_over}
 use Rattle.hir_store.specs.Parts.{PartsBelow}
-use Rattle.hir_store.specs.Store.{Extends, names_of, Grows, Stands, AllStand, IsPlaced}
+use Rattle.hir_store.specs.Store.{Extends, Grows, Stands, AllStand, IsPlaced}
 use Rattle.hir_store.proofs.Lists.{extends_self, extends_on, kept_on, splits}
+use Rattle.hir_store.proofs.Maps.{older_self, older_on}
 use Rattle.hir_store.proofs.Nodes.{KeepsNames, KeepsTrees, WholeBelow, names_same, same_node, node_below}
 use Rattle.hir_store.proofs.Unfolds.{whole_within, renamed, front_stays, seam}
 
+-- a store that grew has as many expressions at least
+pub longer : (old new : ExpressionStore) → Grows old new → length old.exprs ≤ length new.exprs
+longer old new grows = omega (arith, ap length grows.exprs.1, length-append old.exprs grows.exprs.0)
+
 pub grows_self : (store : ExpressionStore) → Grows store store
-grows_self store = record { exprs = extends_self store.exprs; pats = extends_self store.pats; bindings = extends_self (names_of store.bindings) }
+grows_self store = record { exprs = extends_self store.exprs; pats = extends_self store.pats; bindings = extends_self store.bindings; older = older_self store }
 
 pub grows_on : (a b c : ExpressionStore) → Grows a b → Grows b c → Grows a c
 grows_on a b c first second = record {
   exprs = extends_on a.exprs b.exprs c.exprs first.exprs second.exprs;
   pats = extends_on a.pats b.pats c.pats first.pats second.pats;
-  bindings = extends_on (names_of a.bindings) (names_of b.bindings) (names_of c.bindings) first.bindings second.bindings;
+  bindings = extends_on a.bindings b.bindings c.bindings first.bindings second.bindings;
+  older = older_on a b c (longer a b first) first.older second.older;
 }
 
-binding_kept : (old new : List Binding) (id : BindingId) (name : Name) → Extends (names_of old) (names_of new) → binding_name old id ≡ Some name → binding_name new id ≡ Some name
+-- the names of bindings, in their order
+abbrev names_of : List Binding → List Name
+names_of bindings = map (λ (b : Binding). b.name) bindings
+
+binding_kept : (old new : List Binding) (id : BindingId) (name : Name) → Extends old new → binding_name old id ≡ Some name → binding_name new id ≡ Some name
 binding_kept old new id name longer is =
     let before : slice_get (names_of old) (number_of id.raw) ≡ Some name = slice_get-map (λ (b : Binding). b.name) old (number_of id.raw) ∙ is in
-    sym (slice_get-map (λ (b : Binding). b.name) new (number_of id.raw)) ∙ kept_on (names_of old) (names_of new) (number_of id.raw) name longer before
+    let names : Extends (names_of old) (names_of new) = (names_of longer.0, ap names_of longer.1 ∙ map-append (λ (b : Binding). b.name) old longer.0) in
+    sym (slice_get-map (λ (b : Binding). b.name) new (number_of id.raw)) ∙ kept_on (names_of old) (names_of new) (number_of id.raw) name names before
 
 name_kept : (old new : ExpressionStore) → Grows old new → (pat : PatId) (name : Name) (there : Option Pat) → slice_get old.pats (number_of pat.raw) ≡ there → bound_name old.bindings there ≡ Some name → name_in new pat ≡ Some name
 name_kept old new grows pat name None is bound = absurd (true≢false (sym (ap is_some bound)))

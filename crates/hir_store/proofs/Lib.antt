@@ -1,6 +1,8 @@
 pub mod Lists
 pub mod Nodes
 pub mod Unfolds
+pub mod Maps
 pub mod Grown
 pub mod Placed
+pub mod Defined
 pub mod Made

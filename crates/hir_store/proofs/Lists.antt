@@ -7,6 +7,9 @@ module _ {A : Type 0} where
   pub extends_self : (xs : List A) → Extends xs xs
   extends_self xs = ([], sym (append-nil xs))
 
+  pub same_extends : (xs ys : List A) → ys ≡ xs → Extends xs ys
+  same_extends xs ys is = subst (Extends xs) (sym is) (extends_self xs)
+
   pub extends_more : (xs more : List A) → Extends xs (xs ++ more)
   extends_more xs more = (more, refl)
 

@@ -1,6 +1,7 @@
 -- What placing an expression, a pattern or a binding does to a store.
-use Rattle.std.proofs.Common.{◌≡◌, ℕ, ◌<◌, ◌≤◌, ◌⊎◌, inl, inr, eq-or-lt_of_le, List, [], ◌∷◌, ◌++◌, length, reverse, slice_get, slice_set, zero, suc, unwrap_or, Some, Option, option_map, IsTrue, refl, sym, ap, ap₂, ◌∙◌, subst, arith, length-append}
-use Rattle.std.proofs.lemmas.List.{map-append}
+use Rattle.std.proofs.Common.{◌≡◌, ℕ, ◌<◌, ◌≤◌, ◌⊎◌, inl, inr, eq-or-lt_of_le, List, [], ◌∷◌, ◌++◌, length, reverse, map, slice_get, slice_set, zero, suc, unwrap_or, Some, None, Option, option_map, is_some, true≢false, IsTrue, refl, sym, ap, ap₂, ◌∙◌, subst, arith, length-append}
+use Rattle.std.proofs.lemmas.Option.{slice_get-map, slice_get_within, same_Some}
+use Rattle.la_arena.specs.Map.{slot_at}
 use Rattle.la_arena.specs.Idx.{number_of}
 use Rattle.sym_core.specs.declared.name.Name.{Name}
 use Rattle.hir_store.specs.declared.ids.ExprId.{ExprId}
@@ -8,27 +9,61 @@ use Rattle.hir_store.specs.declared.ids.PatId.{PatId}
 use Rattle.hir_store.specs.declared.ids.BindingId.{BindingId}
 use Rattle.hir_store.specs.declared.expr.Expr.{Expr}
 use Rattle.hir_store.specs.declared.pat.Pat.{Pat}
+use Rattle.hir_store.specs.declared.pat.Pat.TheVariants.{Bind}
 use Rattle.hir_store.specs.declared.pat.Binding.{Binding}
 use Rattle.hir_store.specs.declared.store.ExpressionStore.{ExpressionStore}
 use Rattle.hir_store.specs.Tree.{is_whole}
 use Rattle.hir_store.specs.Unfolding.{place_of, binding_name, bound_name, name_in, tree_in, tree_at, tree_over}
-use Rattle.hir_store.specs.Store.{Extends, names_of, Grows, Stands, IsPlaced, PlacesExpr, PlacesPat, PlacesBinding, Defines}
-use Rattle.hir_store.proofs.Lists.{extends_self, seam_at}
-use Rattle.hir_store.proofs.Unfolds.{front_stays, seam}
-use Rattle.hir_store.proofs.Grown.{stays}
-
-same_extends : {A : Type 0} (xs ys : List A) → ys ≡ xs → Extends xs ys
-same_extends xs ys is = subst (Extends xs) (sym is) (extends_self xs)
+use Rattle.hir_store.specs.Sources.{HoldsPlaced, SameAtOlder, SameMaps}
+use Rattle.hir_store.specs.Store.{Grows, Stands, IsEmptyStore, IsPlaced, BindsWithin, DefinedWithin, PlacesExpr, PlacesPat, PlacesBinding, Defines}
+use Rattle.hir_store.proofs.Lists.{same_extends, seam_at}
+use Rattle.hir_store.proofs.Nodes.{KeepsNames}
+use Rattle.hir_store.proofs.Unfolds.{front_stays, seam, renamed}
+use Rattle.hir_store.proofs.Maps.{same_at_older, maps_still}
+use Rattle.hir_store.proofs.Grown.{names_kept}
 
 names_same : (old new : ExpressionStore) → new.pats ≡ old.pats → new.bindings ≡ old.bindings → name_in new ≡ name_in old
 names_same old new pats bindings = ap₂ {C = PatId → Option Name} (λ (ps : List Pat) (bs : List Binding) (pat : PatId). bound_name bs (slice_get ps (number_of pat.raw))) pats bindings
 
+-- patterns and bindings that name what is there go on to, where no arena is shorter
+binds_later : (old new : ExpressionStore) (pat : Pat) → length old.bindings ≤ length new.bindings → BindsWithin old pat → BindsWithin new pat
+binds_later old new (Bind id) le within = omega (arith, le, within)
+
+defined_later : (old new : ExpressionStore) (definition : Option PatId) → length old.pats ≤ length new.pats → DefinedWithin old definition → DefinedWithin new definition
+defined_later old new None le within = tt
+defined_later old new (Some pat) le within = omega (arith, le, within)
+
+abbrev PatternsPlaced : ExpressionStore → Type 0
+PatternsPlaced store = (number : ℕ) (pat : Pat) → slice_get store.pats number ≡ Some pat → BindsWithin store pat
+
+abbrev DefinitionsPlaced : ExpressionStore → Type 0
+DefinitionsPlaced store = (number : ℕ) (binding : Binding) → slice_get store.bindings number ≡ Some binding → DefinedWithin store binding.definition
+
+module _ (old new : ExpressionStore) (pats : new.pats ≡ old.pats) (bindings : new.bindings ≡ old.bindings) where
+  patterns_still : PatternsPlaced old → PatternsPlaced new
+  patterns_still was number pat is = binds_later old new pat (omega (arith, ap length bindings)) (was number pat (subst (λ ps. slice_get ps number ≡ Some pat) pats is))
+
+  definitions_still : DefinitionsPlaced old → DefinitionsPlaced new
+  definitions_still was number binding is = defined_later old new binding.definition (omega (arith, ap length pats)) (was number binding (subst (λ bs. slice_get bs number ≡ Some binding) bindings is))
+
+-- a list with one more behind has what it had, or that one
+one_of : {A : Type 0} (xs : List A) (x : A) (i : ℕ) (y : A) → slice_get (xs ++ x ∷ []) i ≡ Some y → (slice_get xs i ≡ Some y) ⊎ (y ≡ x)
+one_of [] x zero y is = inr (sym (same_Some x y is))
+one_of [] x (suc i) y is = inl is
+one_of (z ∷ xs) x zero y is = inl is
+one_of (z ∷ xs) x (suc i) y is = one_of xs x i y is
+
+-- the names of bindings, in their order
+abbrev names_of : List Binding → List Name
+names_of bindings = map (λ (b : Binding). b.name) bindings
+
 module _ (old new : ExpressionStore) (e : Expr) (id : ExprId) (places : PlacesExpr old e id new) where
-  pub grows_by_expr : Grows old new
-  grows_by_expr = record {
+  pub grows_by_expr : SameAtOlder old new → Grows old new
+  grows_by_expr older = record {
     exprs = (e ∷ [], places.exprs);
     pats = same_extends old.pats new.pats places.pats;
-    bindings = same_extends (names_of old.bindings) (names_of new.bindings) (ap names_of places.bindings);
+    bindings = same_extends old.bindings new.bindings places.bindings;
+    older = older;
   }
 
   unfolds : (i : ExprId) → tree_at new i ≡ tree_in (name_in old) (reverse (old.exprs ++ e ∷ [])) i
@@ -56,54 +91,87 @@ module _ (old new : ExpressionStore) (e : Expr) (id : ExprId) (places : PlacesEx
   is_whole_at was whole i (inl newest) = subst (λ t. IsTrue (is_whole t)) (sym (at_seam i newest)) whole
   is_whole_at was whole i (inr older) = subst (λ t. IsTrue (is_whole t)) (sym (older_stays i older)) (was.whole i older)
 
-  pub placed_later : IsPlaced old → IsTrue (is_whole (tree_over old e)) → IsPlaced new
-  placed_later was whole = record {
+  pub placed_later : HoldsPlaced new → IsPlaced old → IsTrue (is_whole (tree_over old e)) → IsPlaced new
+  placed_later maps was whole = record {
     whole = λ i lt.
         let within : place_of i ≤ length old.exprs = omega (arith, lt, ap length places.exprs, length-append old.exprs (e ∷ [])) in
         is_whole_at was whole i (eq-or-lt_of_le within);
+    patterns = patterns_still old new places.pats places.bindings was.patterns;
+    definitions = definitions_still old new places.pats places.bindings was.definitions;
+    maps = maps;
   }
 
--- a store with no expression has nothing that is not whole
-pub placed_empty : (store : ExpressionStore) → store.exprs ≡ [] → IsPlaced store
-placed_empty store is = record { whole = λ id lt. absurd (omega (arith, lt, ap length is)) }
-
--- what changes no expression leaves each index its whole tree
-pub placed_still : (old new : ExpressionStore) → Grows old new → new.exprs ≡ old.exprs → IsPlaced old → IsPlaced new
-placed_still old new grows is was = record {
-  whole = λ id lt.
-      let before : place_of id < length old.exprs = omega (arith, lt, ap length is) in
-      subst (λ t. IsTrue (is_whole t)) (sym (stays old new grows id (was.whole id before))) (was.whole id before);
+-- an empty store names nothing
+pub placed_empty : (store : ExpressionStore) → IsEmptyStore store → IsPlaced store
+placed_empty store empty = record {
+  whole = λ id lt. absurd (omega (arith, lt, ap length empty.exprs));
+  patterns = λ number pat is. absurd (omega (arith, ap length empty.pats, slice_get_within store.pats number pat is));
+  definitions = λ number binding is. absurd (omega (arith, ap length empty.bindings, slice_get_within store.bindings number binding is));
+  maps = record {
+    sources = λ number value is. absurd (true≢false (sym (ap is_some (ap (λ slots. slot_at slots number) (sym empty.sources) ∙ is))));
+    capture_sources = λ number value is. absurd (true≢false (sym (ap is_some (ap (λ slots. slot_at slots number) (sym empty.capture_sources) ∙ is))));
+    captures = λ number value is. absurd (true≢false (sym (ap is_some (ap (λ slots. slot_at slots number) (sym empty.captures) ∙ is))));
+  };
 }
 
-module _ (old new : ExpressionStore) (pat : Pat) (id : PatId) (places : PlacesPat old pat id new) where
+-- where no expression changes, and patterns go on to bind names, each index has its whole tree
+whole_still : (old new : ExpressionStore) → new.exprs ≡ old.exprs → KeepsNames (name_in old) (name_in new) → IsPlaced old → (id : ExprId) → place_of id < length new.exprs → IsTrue (is_whole (tree_at new id))
+whole_still old new is names was id lt =
+    let before : place_of id < length old.exprs = omega (arith, lt, ap length is) in
+    let same : tree_at new id ≡ tree_at old id = ap (λ es. tree_in (name_in new) (reverse es) id) is ∙ renamed (name_in old) (name_in new) names (reverse old.exprs) id (was.whole id before) in
+    subst (λ t. IsTrue (is_whole t)) (sym same) (was.whole id before)
+
+module _ (old new : ExpressionStore) (pat : Pat) (id : PatId) (places : PlacesPat old pat id new) (maps : SameMaps old new) where
   pub grows_by_pat : Grows old new
   grows_by_pat = record {
     exprs = same_extends old.exprs new.exprs places.exprs;
     pats = (pat ∷ [], places.pats);
-    bindings = same_extends (names_of old.bindings) (names_of new.bindings) (ap names_of places.bindings);
+    bindings = same_extends old.bindings new.bindings places.bindings;
+    older = same_at_older old new maps;
   }
 
   -- the pattern binds the name that its binding has
   pub name_of_pat : name_in new id ≡ bound_name old.bindings (Some pat)
   name_of_pat = ap₂ bound_name places.bindings (ap (λ ps. slice_get ps (number_of id.raw)) places.pats ∙ seam_at old.pats (number_of id.raw) pat places.place)
 
-  pub placed_by_pat : IsPlaced old → IsPlaced new
-  placed_by_pat = placed_still old new grows_by_pat places.exprs
+  pub placed_by_pat : IsPlaced old → BindsWithin old pat → IsPlaced new
+  placed_by_pat was within = record {
+    whole = whole_still old new places.exprs (names_kept old new grows_by_pat) was;
+    patterns = λ number p is. binds_later old new p (omega (arith, ap length places.bindings)) (one_more_pat number p (subst (λ ps. slice_get ps number ≡ Some p) places.pats is));
+    definitions = λ number b is. defined_later old new b.definition (omega (arith, ap length places.pats, length-append old.pats (pat ∷ []))) (was.definitions number b (subst (λ bs. slice_get bs number ≡ Some b) places.bindings is));
+    maps = maps_still old new maps (omega (arith, ap length places.exprs)) was.maps;
+  } where
+    one_more_pat : (number : ℕ) (p : Pat) → slice_get (old.pats ++ pat ∷ []) number ≡ Some p → BindsWithin old p
+    one_more_pat number p is = decide (one_of old.pats pat number p is) where
+      decide : (slice_get old.pats number ≡ Some p) ⊎ (p ≡ pat) → BindsWithin old p
+      decide (inl before) = was.patterns number p before
+      decide (inr newest) = subst (BindsWithin old) (sym newest) within
 
-module _ (old new : ExpressionStore) (b : Binding) (id : BindingId) (places : PlacesBinding old b id new) where
+module _ (old new : ExpressionStore) (b : Binding) (id : BindingId) (places : PlacesBinding old b id new) (maps : SameMaps old new) where
   pub grows_by_binding : Grows old new
   grows_by_binding = record {
     exprs = same_extends old.exprs new.exprs places.exprs;
     pats = same_extends old.pats new.pats places.pats;
-    bindings = (names_of (b ∷ []), ap names_of places.bindings ∙ map-append (λ (c : Binding). c.name) old.bindings (b ∷ []));
+    bindings = (b ∷ [], places.bindings);
+    older = same_at_older old new maps;
   }
 
   -- the binding has its name
   pub name_of_binding : binding_name new.bindings id ≡ Some b.name
   name_of_binding = ap (option_map (λ (c : Binding). c.name)) (ap (λ bs. slice_get bs (number_of id.raw)) places.bindings ∙ seam_at old.bindings (number_of id.raw) b places.place)
 
-  pub placed_by_binding : IsPlaced old → IsPlaced new
-  placed_by_binding = placed_still old new grows_by_binding places.exprs
+  pub placed_by_binding : IsPlaced old → DefinedWithin old b.definition → IsPlaced new
+  placed_by_binding was within = record {
+    whole = whole_still old new places.exprs (names_kept old new grows_by_binding) was;
+    patterns = λ number p is. binds_later old new p (omega (arith, ap length places.bindings, length-append old.bindings (b ∷ []))) (was.patterns number p (subst (λ ps. slice_get ps number ≡ Some p) places.pats is));
+    definitions = λ number c is. defined_later old new c.definition (omega (arith, ap length places.pats)) (one_more_binding number c (subst (λ bs. slice_get bs number ≡ Some c) places.bindings is));
+    maps = maps_still old new maps (omega (arith, ap length places.exprs)) was.maps;
+  } where
+    one_more_binding : (number : ℕ) (c : Binding) → slice_get (old.bindings ++ b ∷ []) number ≡ Some c → DefinedWithin old c.definition
+    one_more_binding number c is = decide (one_of old.bindings b number c is) where
+      decide : (slice_get old.bindings number ≡ Some c) ⊎ (c ≡ b) → DefinedWithin old c.definition
+      decide (inl before) = was.definitions number c before
+      decide (inr newest) = subst (λ (d : Binding). DefinedWithin old d.definition) (sym newest) within
 
 -- a binding that gets a definition keeps its name
 names_still : (bs : List Binding) (k : ℕ) (b : Binding) (pat : PatId) → slice_get bs k ≡ Some b → names_of (slice_set bs k (record b { definition = Some pat })) ≡ names_of bs
@@ -113,13 +181,38 @@ names_still (c ∷ bs) zero b pat is = ap (λ n. n ∷ names_of bs) (sym (some_n
   some_name e = ap (λ o. unwrap_or (option_map (λ (x : Binding). x.name) o) c.name) e
 names_still (c ∷ bs) (suc k) b pat is = ap (λ l. c.name ∷ l) (names_still bs k b pat is)
 
-module _ (old new : ExpressionStore) (id : BindingId) (pat : PatId) (defines : Defines old id pat new) where
-  pub grows_by_definition : Grows old new
-  grows_by_definition = record {
-    exprs = same_extends old.exprs new.exprs defines.exprs;
-    pats = same_extends old.pats new.pats defines.pats;
-    bindings = same_extends (names_of old.bindings) (names_of new.bindings) (ap names_of defines.bindings ∙ names_still old.bindings (number_of id.raw) defines.binding pat defines.was);
-  }
+-- a list has after a write what was written, or what it had
+one_written : {A : Type 0} (xs : List A) (k i : ℕ) (x y : A) → slice_get (slice_set xs k x) i ≡ Some y → (slice_get xs i ≡ Some y) ⊎ (y ≡ x)
+one_written [] k i x y is = inl is
+one_written (z ∷ xs) zero zero x y is = inr (sym (same_Some x y is))
+one_written (z ∷ xs) zero (suc i) x y is = inl is
+one_written (z ∷ xs) (suc k) zero x y is = inl is
+one_written (z ∷ xs) (suc k) (suc i) x y is = one_written xs k i x y is
 
-  pub placed_by_definition : IsPlaced old → IsPlaced new
-  placed_by_definition = placed_still old new grows_by_definition defines.exprs
+length_written : {A : Type 0} (xs : List A) (k : ℕ) (x : A) → length (slice_set xs k x) ≡ length xs
+length_written [] k x = refl
+length_written (z ∷ xs) zero x = refl
+length_written (z ∷ xs) (suc k) x = ap suc (length_written xs k x)
+
+module _ (old new : ExpressionStore) (id : BindingId) (pat : PatId) (defines : Defines old id pat new) (maps : SameMaps old new) where
+  same_names : names_of new.bindings ≡ names_of old.bindings
+  same_names = ap names_of defines.bindings ∙ names_still old.bindings (number_of id.raw) defines.binding pat defines.was
+
+  pub names_by_definition : KeepsNames (name_in old) (name_in new)
+  names_by_definition p name is = ap (bound_name new.bindings) (ap (λ ps. slice_get ps (number_of p.raw)) defines.pats) ∙ still (slice_get old.pats (number_of p.raw)) ∙ is where
+    still : (there : Option Pat) → bound_name new.bindings there ≡ bound_name old.bindings there
+    still None = refl
+    still (Some (Bind b)) = sym (slice_get-map (λ (c : Binding). c.name) new.bindings (number_of b.raw)) ∙ ap (λ ns. slice_get ns (number_of b.raw)) same_names ∙ slice_get-map (λ (c : Binding). c.name) old.bindings (number_of b.raw)
+
+  pub placed_by_definition : IsPlaced old → number_of pat.raw < length old.pats → IsPlaced new
+  placed_by_definition was within = record {
+    whole = whole_still old new defines.exprs names_by_definition was;
+    patterns = λ number p is. binds_later old new p (omega (arith, ap length defines.bindings, length_written old.bindings (number_of id.raw) (record defines.binding { definition = Some pat }))) (was.patterns number p (subst (λ ps. slice_get ps number ≡ Some p) defines.pats is));
+    definitions = λ number b is. defined_later old new b.definition (omega (arith, ap length defines.pats)) (defined number b (subst (λ bs. slice_get bs number ≡ Some b) defines.bindings is));
+    maps = maps_still old new maps (omega (arith, ap length defines.exprs)) was.maps;
+  } where
+    defined : (number : ℕ) (b : Binding) → slice_get (slice_set old.bindings (number_of id.raw) (record defines.binding { definition = Some pat })) number ≡ Some b → DefinedWithin old b.definition
+    defined number b is = decide (one_written old.bindings (number_of id.raw) number (record defines.binding { definition = Some pat }) b is) where
+      decide : (slice_get old.bindings number ≡ Some b) ⊎ (b ≡ record defines.binding { definition = Some pat }) → DefinedWithin old b.definition
+      decide (inl before) = was.definitions number b before
+      decide (inr newest) = subst (λ (d : Binding). DefinedWithin old d.definition) (sym newest) within

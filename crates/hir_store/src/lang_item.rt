@@ -7,6 +7,15 @@ pub enum LangItem {
     FormatArgument,
 }
 
+/// Which language items there are to lower to.
+#[derive(Clone, Copy, Debug, PartialEq, Eq)]
+pub struct LangItems {
+    /// Whether there is a [`LangItem::FormatArguments`].
+    pub format_arguments: bool,
+    /// Whether there is a [`LangItem::FormatArgument`].
+    pub format_argument: bool,
+}
+
 /// An associated function of a language item.
 #[derive(Clone, Copy, Debug, PartialEq, Eq, Hash)]
 pub enum LangFn {

@@ -6,10 +6,12 @@ mod expr;
 mod ids;
 mod lang_item;
 mod pat;
+mod source;
 mod store;
 
 pub use expr::{Expr, Literal, Statement};
 pub use ids::{BindingId, ExprId, PatId};
-pub use lang_item::{LangFn, LangItem};
+pub use lang_item::{LangFn, LangItem, LangItems};
 pub use pat::{Binding, Pat};
+pub use source::CaptureSource;
 pub use store::ExpressionStore;

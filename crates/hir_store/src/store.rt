@@ -1,11 +1,12 @@
-ghost use Rattle.std.specs.Prelude.{◌≡◌, ◌↔◌, [], Some, None, length, IsTrue, IfOk, OnErr};
+ghost use Rattle.std.specs.Prelude.{◌≡◌, ◌↔◌, ◌<◌, ◌⊎◌, [], Some, None, length, IsTrue, IfOk, OnErr};
 
-use crate::{Binding, BindingId, Expr, ExprId, Pat, PatId};
-use la_arena::{Arena, ArenaError};
-use std::alloc::Global;
-use sym_core::Name;
+use crate::{Binding, BindingId, CaptureSource, Expr, ExprId, Pat, PatId};
+use la_arena::{Arena, ArenaError, ArenaMap, Idx};
+use sqlite_items::Items;
+use std::alloc::{AllocError, Global};
+use sym_core::{AstPtr, InFile, Name, TextRange};
 
-/// The expressions, patterns and bindings of a body.
+/// The expressions, patterns and bindings of a body, and where they come from in the source.
 ///
 /// A store only grows: an index, once given, names the same expression, pattern or binding from then on.
 #[derive(Debug, Drop)]
@@ -16,24 +17,57 @@ pub struct ExpressionStore {
     pub pats: Arena<Pat>,
     /// What the patterns bind.
     pub bindings: Arena<Binding>,
+    /// The source of each expression that stands in one.
+    pub expr_map_back: ArenaMap<Idx<Expr>, InFile<AstPtr>>,
+    /// For each expression that a format call captures, where the call names it.
+    pub implicit_capture_to_source: ArenaMap<Idx<Expr>, InFile<CaptureSource>>,
+    /// For each format call, the ranges of its literal that name a captured variable, with the names.
+    pub format_args_to_captures: ArenaMap<Idx<Expr>, Items<(TextRange, Name)>>,
 }
 
 impl ExpressionStore {
     ghost use Rattle.hir_store.specs.Tree.{Missing, is_whole};
     ghost use Rattle.hir_store.specs.Unfolding.{tree_over, binding_name, bound_name, name_in};
-    ghost use Rattle.hir_store.specs.Store.{Grows, Stands, IsPlaced, PlacesExpr, PlacesPat, PlacesBinding};
+    ghost use Rattle.la_arena.specs.Idx.{number_of};
+    ghost use Rattle.hir_store.specs.Sources.{SameMaps, EntersSource};
+    ghost use Rattle.hir_store.specs.Store.{Grows, Stands, IsEmptyStore, IsPlaced, PlacesExpr, PlacesNewest, PlacesPat, PlacesBinding, BindsWithin, Defines, EachDefines};
 
     /// An empty store, which takes no memory.
     pub fn new(alloc: Global) -> ExpressionStore
-        ensures exprs { result.exprs ≡ [] }
-        ensures pats { result.pats ≡ [] }
-        ensures bindings { result.bindings ≡ [] }
-        ensures empty { IsPlaced result }
+        ensures empty { IsEmptyStore result }
+        ensures placed { IsPlaced result }
+        ensures defined { EachDefines result }
     {
         ExpressionStore {
             exprs: Arena::new(alloc),
             pats: Arena::new(alloc),
             bindings: Arena::new(alloc),
+            expr_map_back: ArenaMap::new(alloc),
+            implicit_capture_to_source: ArenaMap::new(alloc),
+            format_args_to_captures: ArenaMap::new(alloc),
+        }
+    }
+
+    /// Places an expression with its source, and returns its index.
+    ///
+    /// # Errors
+    ///
+    /// `Full` comes exactly where the store holds 4,294,967,295 expressions, and leaves the store as it was. Where no
+    /// memory is left for the source, the expression may stay, and has no source.
+    pub fn alloc_expr(&mut self, expr: Expr, ptr: InFile<AstPtr>) -> Result<ExprId, ArenaError>
+        ensures placed { IfOk result (λ id. PlacesExpr self.old expr id self.new) }
+        ensures source { IfOk result (λ id. EntersSource self.old id ptr self.new) }
+        ensures full { result ≡ Err ArenaError.Full ↔ (length self.old.exprs ≡ 4_294_967_295) }
+        ensures unchanged { result ≡ Err ArenaError.Full → self.new ≡ self.old }
+        ensures err { OnErr result (self.new ≡ self.old ⊎ PlacesNewest self.old expr self.new) }
+        ensures grows { Grows self.old self.new }
+        ensures stands { IsTrue (is_whole (tree_over self.old expr)) → IfOk result (λ id. Stands self.new id (tree_over self.old expr)) }
+        ensures kept { IsPlaced self.old → IsTrue (is_whole (tree_over self.old expr)) → IsPlaced self.new }
+    {
+        let id = self.alloc_expr_desugared(expr)?;
+        match self.expr_map_back.insert(id.idx(), ptr) {
+            Ok(_) => Ok(id),
+            Err(_) => Err(ArenaError::Memory(AllocError)),
         }
     }
 
@@ -44,6 +78,7 @@ impl ExpressionStore {
     /// `Full` comes exactly where the store holds 4,294,967,295 expressions.
     pub fn alloc_expr_desugared(&mut self, expr: Expr) -> Result<ExprId, ArenaError>
         ensures placed { IfOk result (λ id. PlacesExpr self.old expr id self.new) }
+        ensures maps { SameMaps self.old self.new }
         ensures full { result ≡ Err ArenaError.Full ↔ (length self.old.exprs ≡ 4_294_967_295) }
         ensures err { OnErr result (self.new ≡ self.old) }
         ensures grows { Grows self.old self.new }
@@ -61,6 +96,7 @@ impl ExpressionStore {
     /// `Full` comes exactly where the store holds 4,294,967,295 expressions.
     pub fn missing_expr(&mut self) -> Result<ExprId, ArenaError>
         ensures placed { IfOk result (λ id. PlacesExpr self.old Expr.Missing id self.new) }
+        ensures maps { SameMaps self.old self.new }
         ensures full { result ≡ Err ArenaError.Full ↔ (length self.old.exprs ≡ 4_294_967_295) }
         ensures err { OnErr result (self.new ≡ self.old) }
         ensures grows { Grows self.old self.new }
@@ -77,6 +113,7 @@ impl ExpressionStore {
     /// `Full` comes exactly where the store holds 4,294,967,295 bindings.
     pub fn alloc_binding(&mut self, name: Name) -> Result<BindingId, ArenaError>
         ensures placed { IfOk result (λ id. PlacesBinding self.old (record { name = name; definition = None }) id self.new) }
+        ensures maps { SameMaps self.old self.new }
         ensures full { result ≡ Err ArenaError.Full ↔ (length self.old.bindings ≡ 4_294_967_295) }
         ensures err { OnErr result (self.new ≡ self.old) }
         ensures grows { Grows self.old self.new }
@@ -98,14 +135,25 @@ impl ExpressionStore {
     /// `Full` comes exactly where the store holds 4,294,967,295 patterns.
     pub fn alloc_pat(&mut self, pat: Pat) -> Result<PatId, ArenaError>
         ensures placed { IfOk result (λ id. PlacesPat self.old pat id self.new) }
+        ensures maps { SameMaps self.old self.new }
         ensures full { result ≡ Err ArenaError.Full ↔ (length self.old.pats ≡ 4_294_967_295) }
         ensures err { OnErr result (self.new ≡ self.old) }
         ensures grows { Grows self.old self.new }
         ensures named { IfOk result (λ id. name_in self.new id ≡ bound_name self.old.bindings (Some pat)) }
-        ensures kept { IsPlaced self.old → IsPlaced self.new }
+        ensures kept { IsPlaced self.old → BindsWithin self.old pat → IsPlaced self.new }
     {
         let idx = self.pats.alloc(pat)?;
         Ok(PatId::from(idx))
+    }
+
+    /// Makes a pattern the definition of a binding. The binding must be in the store.
+    pub fn add_definition_to_binding(&mut self, binding: BindingId, pat: PatId)
+        requires { number_of binding.raw < length self.old.bindings }
+        ensures defines { Defines self.old binding pat self.new }
+        ensures maps { SameMaps self.old self.new }
+        ensures kept { IsPlaced self.old → number_of pat.raw < length self.old.pats → IsPlaced self.new }
+    {
+        self.bindings[binding.idx()].definition = Some(pat);
     }
 }
 
@@ -113,21 +161,45 @@ impl ExpressionStore {
 mod tests {
     use super::*;
     use std::test::Fail;
+    use sym_core::{FileId, HirFileId};
+
+    fn source(node: u32) -> InFile<AstPtr> {
+        InFile {
+            file_id: HirFileId::File(FileId { raw: 0 }),
+            value: AstPtr { node },
+        }
+    }
 
     #[test]
     fn counts_each_kind_from_zero(rt: HostRuntime) -> Result<(), Fail> {
         let mut store = ExpressionStore::new(rt.alloc());
-        let leaf = store.alloc_expr_desugared(Expr::Leaf(7))?;
+        let leaf = store.alloc_expr(Expr::Leaf(7), source(5))?;
+        let other = store.alloc_expr_desugared(Expr::Leaf(8))?;
         let missing = store.missing_expr()?;
         let binding = store.alloc_binding(Name::fresh(0))?;
         let pat = store.alloc_pat(Pat::Bind(binding))?;
         assert_eq!(rt; leaf.raw.into_u32(), 0);
-        assert_eq!(rt; missing.raw.into_u32(), 1);
+        assert_eq!(rt; other.raw.into_u32(), 1);
+        assert_eq!(rt; missing.raw.into_u32(), 2);
         assert_eq!(rt; binding.raw.into_u32(), 0);
         assert_eq!(rt; pat.raw.into_u32(), 0);
         assert!(rt; matches!(store.exprs[leaf.idx()], Expr::Leaf(7)));
         assert!(rt; matches!(store.exprs[missing.idx()], Expr::Missing));
-        assert_eq!(rt; format!(in rt.alloc(); "{missing:?}")?.as_str(), "Idx(1)");
+        assert_eq!(rt; store.expr_map_back.get(leaf.idx()), Some(&source(5)));
+        assert!(rt; !store.expr_map_back.contains_idx(other.idx()));
+        assert_eq!(rt; format!(in rt.alloc(); "{missing:?}")?.as_str(), "Idx(2)");
+        Ok(())
+    }
+
+    #[test]
+    fn defines_bindings(rt: HostRuntime) -> Result<(), Fail> {
+        let mut store = ExpressionStore::new(rt.alloc());
+        let first = store.alloc_binding(Name::fresh(0))?;
+        let second = store.alloc_binding(Name::fresh(1))?;
+        let pat = store.alloc_pat(Pat::Bind(second))?;
+        store.add_definition_to_binding(second, pat);
+        assert_eq!(rt; store.bindings[first.idx()].definition, None);
+        assert_eq!(rt; store.bindings[second.idx()].definition, Some(pat));
         Ok(())
     }
 }

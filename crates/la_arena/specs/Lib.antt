@@ -1,3 +1,15 @@
 pub mod Idx
 pub mod Arena
 pub mod Laws
+pub mod IdxRange
+pub mod Iter
+pub mod Lends
+pub mod Options
+pub mod Map
+pub mod MapLends
+pub mod SlotsLeft
+pub mod MapIter
+pub mod MapIterMut
+pub mod MapExtend
+pub mod Entry
+pub mod EntryLends

@@ -1,11 +1,21 @@
 //! Yet another index-based arena: a list of values of one type, each reached by the index under which it was placed.
-//! An arena only grows, so that an index, once given, reaches the same value from then on.
+//! An index reaches the value that was placed under it until that value is written over or the arena is cleared.
+//! An [`ArenaMap`] holds values of another type under such indexes.
 #![tactic(auto)]
 
 mod arena;
 mod idx;
+mod idx_range;
+mod iter;
 mod laws;
+mod map;
 
 pub use arena::{Arena, ArenaError};
 pub use idx::{Idx, RawIdx};
+pub use idx_range::IdxRange;
+pub use iter::{IntoIter, Iter, IterMut, Values, ValuesMut};
 pub use laws::placing_keeps;
+pub use map::{
+    ArenaMap, ArenaMapIter, Entry, InsertRefused, MapIter, MapIterMut, MapValues, MapValuesMut,
+    OccupiedEntry, VacantEntry,
+};

@@ -1,5 +1,5 @@
 -- Leaves, as they are read, are the arguments of a call.
-use Rattle.std.proofs.Common.{◌≡◌, ℕ, List, [], ◌∷◌, ◌++◌, map, Option, Some, None, ap, ◌∙◌, sym, subst, append-nil}
+use Rattle.std.proofs.Common.{◌≡◌, ℕ, List, [], ◌∷◌, ◌++◌, map, Some, None, ap, ◌∙◌, sym, subst, append-nil}
 use Rattle.std.proofs.lemmas.List.{map-append}
 use Rattle.text_cut.specs.Place.{Place}
 use Rattle.syn_trees.specs.declared.format_call.FormatArgSyntax.{FormatArgSyntax}

@@ -8,7 +8,7 @@ use Rattle.std.proofs.lemmas.Option.{option_and_then_some, same_Some}
 use Rattle.text_cut.specs.Runs.{starts, front, size, AllPass, is_blank}
 use Rattle.text_cut.specs.Place.{Place, place, past, Took}
 use Rattle.text_cut.specs.Rules.{past_word}
-use Rattle.text_cut.specs.Reading.{Spelled, texts, items, AreSpelled}
+use Rattle.text_cut.specs.Reading.{texts}
 use Rattle.text_cut.proofs.Sizes.{size_append}
 use Rattle.text_cut.proofs.Runs.{front_is}
 use Rattle.text_cut.proofs.Rules.{took_both, past_is}
@@ -37,7 +37,7 @@ use Rattle.script_preds.proofs.Tokens.{no_tok}
 use Rattle.script_preds.proofs.Preds.{reads_preds}
 use Rattle.script_preds.proofs.Before.{pred_before}
 use Rattle.script.specs.Line.{BodyIs, ReadsBody}
-use Rattle.script.specs.Bodies.{Change, SetFlag, SetPair, SetVersion, IsName, IsString, IsPair, OptBody, answer_word, IsVersion, VersionBody, CfgBody, AttrBody, CallText, FormatBody, IsLeaf}
+use Rattle.script.specs.Bodies.{Change, SetFlag, SetPair, SetVersion, IsName, IsString, IsPair, OptBody, answer_word, IsVersion, VersionBody, CfgBody, AttrBody, CallText, FormatBody}
 use Rattle.script.specs.ReadBodies.{name_at, pair_of, opt_with, opt_behind, opt_at, answer_of, answer_with, version_with, version_behind, version_at, cfg_at, attr_at, leaf_at, leaves_at, holes_of, counted_call, call_behind, format_at}
 use Rattle.script.proofs.Leaves.{LeavesAre, leaves_before, leaves_found, leaves_are}
 use Rattle.script.proofs.Placeholders.{TokenHas, token_holes_are, token_holes_found}

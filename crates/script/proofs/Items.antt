@@ -3,19 +3,18 @@ use Rattle.std.proofs.Common.{◌≡◌, ℕ, ◌+◌, ◌<◌, false, inl, inr,
 use Rattle.std.specs.Option.{option_map, option_and_then}
 use Rattle.std.proofs.lemmas.Option.{option_and_then_some, same_Some}
 use Rattle.text_cut.specs.Runs.{starts, front, size, AllPass, is_blank}
-use Rattle.text_cut.specs.Place.{Place, place, past, Took}
+use Rattle.text_cut.specs.Place.{Place, place, past}
 use Rattle.text_cut.specs.Rules.{Spells, past_word}
 use Rattle.text_cut.specs.Reading.{Spelled, texts, ReadsPieces, StepsBy, IgnoresRest}
 use Rattle.text_cut.proofs.Sizes.{size_append, size_some}
 use Rattle.text_cut.proofs.Rules.{took_both, word_is, past_is}
 use Rattle.text_cut.proofs.Runs.{front_is}
 use Rattle.text_cut.proofs.Options.{mapped, none_some}
-use Rattle.ra_cfg.specs.declared.cfg_expr.CfgExpr.{CfgExpr}
 use Rattle.script_tokens.specs.Words.{IsComment}
 use Rattle.script_tokens.specs.ReadTokens.{past_line, past_keyword, past_comment}
-use Rattle.script_tokens.proofs.Strings.{KeywordIs, CommentIs, past_run, keyword_is, comment_found, comment_is}
+use Rattle.script_tokens.proofs.Strings.{CommentIs, past_run, keyword_is, comment_found, comment_is}
 use Rattle.script.specs.Line.{IsLine, ended, line_with, ReadsBody}
-use Rattle.script.specs.Bodies.{Change, OptBody, VersionBody, CfgBody, AttrBody, CallText, FormatBody}
+use Rattle.script.specs.Bodies.{OptBody, VersionBody, CfgBody, AttrBody, FormatBody}
 use Rattle.script.specs.ReadBodies.{opt_at, version_at, cfg_at, attr_at, format_at}
 use Rattle.script.specs.Script.{Item, Blank, OptionItem, PredicateItem, FormatItem, IsItem}
 use Rattle.script.specs.ReadItem.{as_item, or_else, opt_item, version_item, cfg_item, attr_item, format_item, gated_item, keyword_item, item_behind, item_at}

@@ -2,7 +2,7 @@
 use Rattle.std.proofs.Common.{◌≡◌, ℕ, ◌+◌, ◌<◌, Bool, false, List, [], ◌∷◌, ◌++◌, length, Option, Some, refl, ap, ◌∙◌, sym, subst, append_assoc, length-append, arith}
 use Rattle.std.specs.Option.{option_map, option_and_then}
 use Rattle.std.proofs.lemmas.Option.{option_and_then_some}
-use Rattle.text_cut.specs.Runs.{starts, size, AllPass, is_blank}
+use Rattle.text_cut.specs.Runs.{starts, size, is_blank}
 use Rattle.text_cut.specs.Place.{Place, place, past, Took}
 use Rattle.text_cut.proofs.Sizes.{size_append}
 use Rattle.text_cut.proofs.Rules.{took_both}

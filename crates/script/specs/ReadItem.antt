@@ -1,5 +1,5 @@
 -- The item that stands at a place in a script, found from the text's front: by its keyword, and what stands behind that.
-use Rattle.std.specs.Prelude.{ℕ, List, [], ◌∷◌, Option, Some, None, codes, option_map}
+use Rattle.std.specs.Prelude.{[], ◌∷◌, Option, Some, None, codes, option_map}
 use Rattle.std.specs.Option.{option_and_then}
 use Rattle.text_cut.specs.Runs.{is_blank}
 use Rattle.text_cut.specs.Place.{Place, past}

@@ -9,6 +9,9 @@ use Rattle.hir_lower.specs.FormatCode.{made_tree, put_pair}
 use Rattle.hir_lower.proofs.Building.{builds_then, builds_within}
 use Rattle.hir_lower.proofs.code.place_made.Goals as goal
 
+pub returns-in_err-callee-clause-builds : goal.returns-in_err-callee-clause-builds
+returns-in_err-callee-clause-builds c = builds_within (c.in_err-callee.ensures.builds (LangPath FormatArgument NewDisplay) refl) (omega arith) (omega arith)
+
 pub returns-in_err-field-clause-builds : goal.returns-in_err-field-clause-builds
 returns-in_err-field-clause-builds c = builds_within (builds_then (c.in_ok-callee.ensures.builds (LangPath FormatArgument NewDisplay) refl) c.in_err-field.ensures.builds) (omega arith) (omega arith)
 

@@ -13,6 +13,9 @@ returns-in_err-text-clause-grows c = search (rules, grows_on)
 pub returns-in_err-args-clause-grows : goal.returns-in_err-args-clause-grows
 returns-in_err-args-clause-grows c = search (rules, grows_on)
 
+pub returns-in_err-call-clause-grows : goal.returns-in_err-call-clause-grows
+returns-in_err-call-clause-grows c = grows_on _ _ _ c.in_ok-callee.ensures.grows (grows_on _ _ _ c.in_ok-text.ensures.grows c.in_err-call.ensures.grows)
+
 pub returns-in_err-call-clause-kept : goal.returns-in_err-call-clause-kept
 returns-in_err-call-clause-kept c = λ placed. subst IsPlaced (sym c.in_err-call.ensures.err) (c.in_ok-text.ensures.kept (c.in_ok-callee.ensures.kept placed refl) refl)
 
@@ -21,6 +24,9 @@ returns-clause-stands c = stands_made _ _ _ _ _ c.in_ok-call.ensures.placed (
   stands_later _ _ _ _ c.in_ok-text.ensures.grows (stands_made _ _ _ _ _ c.in_ok-callee.ensures.placed refl),
   all_as _ _ _ _ c.in_ok-args.ensures.value (stands_made _ _ _ _ _ c.in_ok-text.ensures.placed refl, tt),
 )
+
+pub returns-clause-grows : goal.returns-clause-grows
+returns-clause-grows c = grows_on _ _ _ c.in_ok-callee.ensures.grows (grows_on _ _ _ c.in_ok-text.ensures.grows c.in_ok-call.ensures.grows)
 
 pub returns-clause-kept : goal.returns-clause-kept
 returns-clause-kept c = λ placed. c.in_ok-call.ensures.kept (c.in_ok-text.ensures.kept (c.in_ok-callee.ensures.kept placed refl) refl)

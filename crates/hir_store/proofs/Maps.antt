@@ -1,0 +1,76 @@
+-- What the maps of a store hold where it grows.
+use Rattle.std.proofs.Common.{◌≡◌, ◌≢◌, ℕ, ◌<◌, ◌≤◌, ◌⊎◌, inl, inr, List, length, Option, Some, refl, sym, ap, ◌∙◌, arith}
+use Rattle.la_arena.specs.Map.{slot_at, with_slot}
+use Rattle.std.proofs.lemmas.Bool.{cases_eq}
+use Rattle.la_arena.proofs.MapLemmas.{Updates-with_slot}
+use Rattle.sym_core.specs.declared.files.InFile.{InFile}
+use Rattle.sym_core.specs.declared.files.AstPtr.{AstPtr}
+use Rattle.hir_store.specs.declared.ids.ExprId.{ExprId}
+use Rattle.hir_store.specs.declared.store.ExpressionStore.{ExpressionStore}
+use Rattle.hir_store.specs.Unfolding.{place_of}
+use Rattle.hir_store.specs.Sources.{HoldsBelow, SameBelow, HoldsPlaced, SameAtOlder, SameMaps, EntersSource}
+
+module _ {A : Type 0} (limit : ℕ) where
+  same_below : (old new : List (Option A)) → new ≡ old → SameBelow limit old new
+  same_below old new same number lt = ap (λ slots. slot_at slots number) same
+
+  same_below_on : (later : ℕ) (a b c : List (Option A)) → limit ≤ later → SameBelow limit a b → SameBelow later b c → SameBelow limit a c
+  same_below_on later a b c le first second number lt = second number (omega (arith, le, lt)) ∙ first number lt
+
+  -- what is written at the limit changes nothing below it
+  same_below_write : (old new : List (Option A)) (place : ℕ) (slot : Option A) → place ≡ limit → new ≡ with_slot old place slot → SameBelow limit old new
+  same_below_write old new place slot at is number lt =
+      let other : number ≢ place = λ e. omega (arith, e, at, lt) in
+      (Updates-with_slot old new place slot is).others number other
+
+  holds_later : (later : ℕ) (old new : List (Option A)) → limit ≤ later → new ≡ old → HoldsBelow limit old → HoldsBelow later new
+  holds_later later old new le same held number value is =
+      omega (arith, le, held number value (ap (λ slots. slot_at slots number) (sym same) ∙ is))
+
+  holds_write : (later : ℕ) (old new : List (Option A)) (place : ℕ) (slot : Option A) → limit ≤ later → place < later → new ≡ with_slot old place slot → HoldsBelow limit old → HoldsBelow later new
+  holds_write later old new place slot le lt is held number value there = decide (cases_eq number place) where
+    decide : (number ≡ place) ⊎ (number ≢ place) → number < later
+    decide (inl same) = omega (arith, same, lt)
+    decide (inr differs) = omega (arith, le, held number value (sym ((Updates-with_slot old new place slot is).others number differs) ∙ there))
+
+module _ (old new : ExpressionStore) where
+  -- maps that stay as they were
+  pub same_at_older : SameMaps old new → SameAtOlder old new
+  same_at_older maps = record {
+    sources = same_below (length old.exprs) old.expr_map_back new.expr_map_back maps.sources;
+    capture_sources = same_below (length old.exprs) old.implicit_capture_to_source new.implicit_capture_to_source maps.capture_sources;
+    captures = same_below (length old.exprs) old.format_args_to_captures new.format_args_to_captures maps.captures;
+  }
+
+  pub maps_still : SameMaps old new → length old.exprs ≤ length new.exprs → HoldsPlaced old → HoldsPlaced new
+  maps_still maps le held = record {
+    sources = holds_later (length old.exprs) (length new.exprs) old.expr_map_back new.expr_map_back le maps.sources held.sources;
+    capture_sources = holds_later (length old.exprs) (length new.exprs) old.implicit_capture_to_source new.implicit_capture_to_source le maps.capture_sources held.capture_sources;
+    captures = holds_later (length old.exprs) (length new.exprs) old.format_args_to_captures new.format_args_to_captures le maps.captures held.captures;
+  }
+
+  module _ (id : ExprId) (ptr : InFile AstPtr) (enters : EntersSource old id ptr new) where
+    -- a source entered at an expression that was not there
+    pub older_with_source : place_of id ≡ length old.exprs → SameAtOlder old new
+    older_with_source at = record {
+      sources = same_below_write (length old.exprs) old.expr_map_back new.expr_map_back (place_of id) (Some ptr) at enters.sources;
+      capture_sources = same_below (length old.exprs) old.implicit_capture_to_source new.implicit_capture_to_source enters.capture_sources;
+      captures = same_below (length old.exprs) old.format_args_to_captures new.format_args_to_captures enters.captures;
+    }
+
+    pub maps_with_source : length old.exprs ≤ length new.exprs → place_of id < length new.exprs → HoldsPlaced old → HoldsPlaced new
+    maps_with_source le lt held = record {
+      sources = holds_write (length old.exprs) (length new.exprs) old.expr_map_back new.expr_map_back (place_of id) (Some ptr) le lt enters.sources held.sources;
+      capture_sources = holds_later (length old.exprs) (length new.exprs) old.implicit_capture_to_source new.implicit_capture_to_source le enters.capture_sources held.capture_sources;
+      captures = holds_later (length old.exprs) (length new.exprs) old.format_args_to_captures new.format_args_to_captures le enters.captures held.captures;
+    }
+
+pub older_self : (store : ExpressionStore) → SameAtOlder store store
+older_self store = same_at_older store store (record { sources = refl; capture_sources = refl; captures = refl })
+
+pub older_on : (a b c : ExpressionStore) → length a.exprs ≤ length b.exprs → SameAtOlder a b → SameAtOlder b c → SameAtOlder a c
+older_on a b c le first second = record {
+  sources = same_below_on (length a.exprs) (length b.exprs) a.expr_map_back b.expr_map_back c.expr_map_back le first.sources second.sources;
+  capture_sources = same_below_on (length a.exprs) (length b.exprs) a.implicit_capture_to_source b.implicit_capture_to_source c.implicit_capture_to_source le first.capture_sources second.capture_sources;
+  captures = same_below_on (length a.exprs) (length b.exprs) a.format_args_to_captures b.format_args_to_captures c.format_args_to_captures le first.captures second.captures;
+}

@@ -1,0 +1,19 @@
+use Rattle.std.proofs.Common.{rules}
+use Rattle.la_arena.proofs.MapIterLemmas.{SkipsBack-empty, SkipsBack-held}
+use Rattle.la_arena.proofs.map.into_iter.ArenaMapIterIdxDoubleEndedIterator.next_back.Goals as goal
+
+pub returns-in-Some-slot-clause-steps : goal.returns-in-Some-slot-clause-steps
+returns-in-Some-slot-clause-steps g c =
+    let found = SkipsBack-held _ _ _ _ c.in-Some-slot.value (rw c.in-Some-slot.is at c.in-Some.ensures.steps) c.loop-slot.invariant in
+    let pairs = found.pairs in
+    (search rules, found.leaves)
+
+pub returns-in-Some-slot-clause-goes : goal.returns-in-Some-slot-clause-goes
+returns-in-Some-slot-clause-goes g c =
+    let found = SkipsBack-held _ _ _ _ c.in-Some-slot.value (rw c.in-Some-slot.is at c.in-Some.ensures.steps) c.loop-slot.invariant in
+    let fewer = found.fewer in
+    search rules
+
+pub loop-slot-preserved : goal.loop-slot-preserved
+loop-slot-preserved g c =
+    SkipsBack-empty _ _ _ _ (rw c.in_default-slot.is at c.in-Some.ensures.steps) c.loop-slot.invariant
