@@ -1,0 +1,463 @@
+ghost use Rattle.std.specs.Prelude.{◌≡◌, ◌≤◌, ◌==◌, ◌++◌, ◌∷◌, [], length, IfOk, IfErr, IfSome, option_map};
+ghost use Rattle.text_cut.specs.Runs.{starts, tail};
+ghost use Rattle.text_cut.specs.Place.{past};
+ghost use Rattle.text_cut.specs.Seen.{seen};
+ghost use Rattle.fmt_parse.specs.Pieces.{takes, implicit, is_plain, ArePieces};
+ghost use Rattle.fmt_parse.specs.ReadPieces.{run_at, doubled_at, piece_at};
+ghost use Rattle.fmt_parse.specs.Format.{HasPlainWidth, HavePlainWidths, IsFault};
+
+use crate::piece::{Piece, Position};
+use crate::placeholder::{placeholder, stars};
+use crate::token::range;
+use std::alloc::{AllocError, Global};
+use text_cut::{Cursor, begin, begins_with, is_at_end, next, run, starts_with};
+use thiserror::Error;
+
+/// Why a format text was not read.
+#[derive(Debug, PartialEq, Eq, Drop, Error)]
+pub enum FormatError {
+    /// The text is no format text: pieces stand in front of this byte, and none at it.
+    #[error("the format text cannot be read from byte {at} on")]
+    Syntax {
+        /// How many bytes the furthest pieces take.
+        at: usize,
+    },
+    /// No memory is left.
+    #[error("{0}")]
+    Memory(AllocError),
+}
+
+impl From<AllocError> for FormatError {
+    ghost use Rattle.std.specs.Prelude.{◌≡◌};
+    ghost use Rattle.fmt_parse.specs.declared.format.FormatError.TheVariants.{Memory};
+
+    ghost from_gives = { λ error refused. refused ≡ Memory error };
+
+    fn from(error: AllocError) -> FormatError {
+        FormatError::Memory(error)
+    }
+}
+
+// Whether a character that stands for itself stands here.
+fn starts_plain(here: Cursor<'_>) -> bool
+    ensures { result ≡ starts is_plain (seen here.entry).left }
+{
+    begins_with(here, |c| c != '{' && c != '}')
+}
+
+// The place behind the characters here that stand for themselves.
+fn plain_end(here: Cursor<'_>) -> Cursor<'_>
+    ensures { seen result ≡ past is_plain (seen here.entry) }
+{
+    run(here, |c| c != '{' && c != '}')
+}
+
+// The literal of the characters here that stand for themselves, and the place behind it.
+fn literal(here: Cursor<'_>) -> (Piece, Cursor<'_>)
+    ensures value { (result.0, seen result.1) ≡ run_at (seen here.entry) }
+    ensures width { HasPlainWidth result.0 }
+{
+    let end = plain_end(here);
+    (Piece::Lit(range(here, end)), end)
+}
+
+// The literal of a doubled brace, and the place behind it.
+#[tactic(auto, unfolding(crate::specs::ReadPieces::doubled_at))]
+fn doubled(here: Cursor<'_>) -> Option<(Piece, Cursor<'_>)>
+    ensures value { option_map (λ r. (r.0, seen r.1)) result ≡ doubled_at (seen here.entry) }
+    ensures width { IfSome result (λ r. HasPlainWidth r.0) }
+{
+    let (_, behind) = next(here)?;
+    let (_, end) = next(behind)?;
+    Some((Piece::Lit(range(here, behind)), end))
+}
+
+// Whether this is the second character here.
+fn second_is(here: Cursor<'_>, c: char) -> bool
+    ensures { result ≡ starts (λ d. d == c) (tail (seen here.entry).left) }
+{
+    match next(here) {
+        Some((_, behind)) => starts_with(behind, c),
+        None => false,
+    }
+}
+
+// The piece that stands here, and the place behind it; none where none does. The next argument has this number.
+#[tactic(auto, unfolding(crate::specs::ReadPieces::piece_at))]
+fn next_piece(here: Cursor<'_>, number: usize) -> Option<(Piece, Cursor<'_>)>
+    requires { number ≤ 4_294_967_295 }
+    ensures value { option_map (λ r. (r.0, seen r.1)) result ≡ piece_at number (seen here.entry) }
+    ensures width { IfSome result (λ r. HasPlainWidth r.0) }
+{
+    if starts_plain(here) {
+        return Some(literal(here));
+    }
+    if starts_with(here, '{') {
+        if second_is(here, '{') {
+            return doubled(here);
+        }
+        return placeholder(here, number);
+    }
+    if second_is(here, '}') {
+        return doubled(here);
+    }
+    None
+}
+
+// Whether a position takes an argument by its turn: 1 if it does.
+fn implicit(position: Position) -> usize
+    ensures { result ≡ implicit position }
+{
+    match position {
+        Position::ImplicitlyIs(_) => 1,
+        _ => 0,
+    }
+}
+
+// How many arguments a piece takes from those that have no number.
+fn takes(piece: Piece) -> usize
+    ensures { result ≡ takes piece }
+{
+    match piece {
+        Piece::Lit(_) => 0,
+        Piece::NextArgument(argument) => {
+            stars(argument.format.precision) + implicit(argument.position)
+        }
+    }
+}
+
+// Puts a piece behind the others.
+fn add(pieces: &mut Vec<Piece>, piece: Piece) -> Result<(), AllocError>
+    ensures { IfOk result (λ u. pieces.new.items ≡ pieces.old.items ++ piece ∷ []) }
+{
+    pieces.push(piece)?;
+    Ok(())
+}
+
+/// Reads a format text of at most 4,294,967,295 bytes: it is exactly the pieces that are returned.
+///
+/// A text that is no format text is refused, with the offset at which the furthest pieces from its front end.
+/// No memory is left where [`FormatError::Memory`] is returned, and that says nothing of the text.
+pub fn parse_format(alloc: Global, text: &str) -> Result<Vec<Piece>, FormatError>
+    requires { length text.now ≤ 4_294_967_295 }
+    ensures read { IfOk result (λ pieces. ArePieces text.now pieces.items) }
+    ensures fault { IfErr result (IsFault text.now) }
+    ensures widths { IfOk result (λ pieces. HavePlainWidths pieces.items) }
+{
+    let mut pieces = Vec::new(alloc);
+    let mut number = 0;
+    let mut here = begin(text);
+    while let Some((piece, behind)) = next_piece(here, number) {
+        number += takes(piece);
+        add(&mut pieces, piece)?;
+        here = behind;
+    }
+    if !is_at_end(here) {
+        return Err(FormatError::Syntax {
+            at: here.at as usize,
+        });
+    }
+    Ok(pieces)
+}
+
+#[cfg(test)]
+mod tests {
+    use super::*;
+    use crate::piece::{Alignment, Argument, Count, DebugHex, FormatSpec, Sign};
+    use std::test::Fail;
+    use sym_core::TextRange;
+
+    // The pieces of a text that is no longer than a script.
+    fn read(alloc: Global, text: &str) -> Result<Vec<Piece>, FormatError> {
+        if text.len() > 16_777_216 {
+            return Err(FormatError::Syntax { at: 0 });
+        }
+        parse_format(alloc, text)
+    }
+
+    // The placeholder that a text is; none where it is something else.
+    fn only(alloc: Global, text: &str) -> Result<Option<Argument>, FormatError> {
+        let pieces = read(alloc, text)?;
+        match pieces.as_slice() {
+            [Piece::NextArgument(argument)] => Ok(Some(*argument)),
+            _ => Ok(None),
+        }
+    }
+
+    // From where on a text cannot be read; none where it can.
+    fn fault(alloc: Global, text: &str) -> Result<Option<usize>, FormatError> {
+        match read(alloc, text) {
+            Ok(_) => Ok(None),
+            Err(FormatError::Syntax { at }) => Ok(Some(at)),
+            Err(FormatError::Memory(error)) => Err(FormatError::Memory(error)),
+        }
+    }
+
+    fn at(start: u32, end: u32) -> TextRange {
+        TextRange { start, end }
+    }
+
+    fn lit(start: u32, end: u32) -> Piece {
+        Piece::Lit(at(start, end))
+    }
+
+    // Only a type.
+    fn typed(start: u32, end: u32) -> FormatSpec {
+        FormatSpec {
+            fill: None,
+            align: Alignment::Unknown,
+            sign: None,
+            alternate: false,
+            zero_pad: false,
+            debug_hex: None,
+            precision: Count::Implied,
+            precision_span: None,
+            width: Count::Implied,
+            width_span: None,
+            ty: at(start, end),
+        }
+    }
+
+    // A width, and behind it the empty type.
+    fn wide(zero_pad: bool, width: Count, span: TextRange, end: u32) -> FormatSpec {
+        FormatSpec {
+            zero_pad,
+            width,
+            width_span: Some(span),
+            ..typed(end, end)
+        }
+    }
+
+    // A precision, and behind it the empty type.
+    fn precise(precision: Count, span: TextRange, end: u32) -> FormatSpec {
+        FormatSpec {
+            precision,
+            precision_span: Some(span),
+            ..typed(end, end)
+        }
+    }
+
+    // An alignment, and behind it the empty type.
+    fn aligned(fill: Option<char>, align: Alignment, end: u32) -> FormatSpec {
+        FormatSpec {
+            fill,
+            align,
+            ..typed(end, end)
+        }
+    }
+
+    // A `?` with a flag in front of it.
+    fn hex(digits: DebugHex) -> FormatSpec {
+        FormatSpec {
+            debug_hex: Some(digits),
+            ..typed(3, 4)
+        }
+    }
+
+    #[test]
+    fn reads_all_parts(rt: HostRuntime) -> Result<(), Fail> {
+        let format = FormatSpec {
+            fill: Some('*'),
+            align: Alignment::Center,
+            sign: Some(Sign::Minus),
+            alternate: true,
+            zero_pad: true,
+            debug_hex: Some(DebugHex::Lower),
+            precision: Count::IsParam(2),
+            precision_span: Some(at(11, 12)),
+            width: Count::Is(10),
+            width_span: Some(at(8, 10)),
+            ty: at(14, 15),
+        };
+        let whole = Argument {
+            position: Position::Is(0),
+            position_span: at(1, 2),
+            span: at(0, 16),
+            format,
+        };
+        assert_eq!(rt;
+            only(rt.alloc(), "{0:*^-#010.2$x?}")?,
+            Some(whole),
+            "all parts"
+        );
+        Ok(())
+    }
+
+    #[test]
+    fn reads_formats(rt: HostRuntime) -> Result<(), Fail> {
+        let cases = [
+            ("{}", typed(1, 1)),
+            ("{:w}", typed(2, 3)),
+            ("{:x}", typed(2, 3)),
+            ("{:?}", typed(2, 3)),
+            ("{: }", typed(2, 2)),
+            ("{:x?}", hex(DebugHex::Lower)),
+            ("{:X?}", hex(DebugHex::Upper)),
+            ("{:<}", aligned(None, Alignment::Left, 3)),
+            ("{:}>}", aligned(Some('}'), Alignment::Right, 4)),
+            ("{:é<}", aligned(Some('é'), Alignment::Left, 5)),
+            ("{:0$}", wide(false, Count::IsParam(0), at(2, 3), 4)),
+            ("{:00}", wide(true, Count::Is(0), at(3, 4), 4)),
+            ("{:00$}", wide(true, Count::IsParam(0), at(3, 4), 5)),
+            ("{:0010}", wide(true, Count::Is(10), at(3, 6), 6)),
+            ("{:65535}", wide(false, Count::Is(65_535), at(2, 7), 7)),
+            ("{:w$}", wide(false, Count::IsName(at(2, 3)), at(2, 3), 4)),
+            ("{:.7}", precise(Count::Is(7), at(3, 4), 4)),
+            ("{:.*}", precise(Count::IsStar(0), at(3, 4), 4)),
+        ];
+        for (text, want) in cases {
+            let Some(argument) = only(rt.alloc(), text)? else {
+                panic!(rt; "{text} is no placeholder");
+            };
+            assert_eq!(rt; argument.format, want, "the format of {text}");
+        }
+        Ok(())
+    }
+
+    #[test]
+    fn reads_signs_and_flags(rt: HostRuntime) -> Result<(), Fail> {
+        let cases = [
+            ("{:+}", Some(Sign::Plus), false, false),
+            ("{:-}", Some(Sign::Minus), false, false),
+            ("{:#}", None, true, false),
+            ("{:0}", None, false, true),
+        ];
+        for (text, sign, alternate, zero_pad) in cases {
+            let want = FormatSpec {
+                sign,
+                alternate,
+                zero_pad,
+                ..typed(3, 3)
+            };
+            let Some(argument) = only(rt.alloc(), text)? else {
+                panic!(rt; "{text} is no placeholder");
+            };
+            assert_eq!(rt; argument.format, want, "the format of {text}");
+        }
+        Ok(())
+    }
+
+    #[test]
+    fn reads_positions(rt: HostRuntime) -> Result<(), Fail> {
+        let cases = [
+            ("{}", Position::ImplicitlyIs(0), at(1, 1), 2),
+            ("{:.*}", Position::ImplicitlyIs(1), at(1, 1), 5),
+            ("{0}", Position::Is(0), at(1, 2), 3),
+            ("{007:?}", Position::Is(7), at(1, 4), 7),
+            ("{é}", Position::Named(at(1, 3)), at(1, 3), 4),
+            ("{_aé \n}", Position::Named(at(1, 5)), at(1, 5), 8),
+        ];
+        for (text, position, span, end) in cases {
+            let Some(argument) = only(rt.alloc(), text)? else {
+                panic!(rt; "{text} is no placeholder");
+            };
+            assert_eq!(rt; argument.position, position, "the position of {text}");
+            assert_eq!(rt; argument.position_span, span, "where {text} says it");
+            assert_eq!(rt; argument.span, at(0, end), "the range of {text}");
+        }
+        Ok(())
+    }
+
+    // The placeholder that takes the next argument and says nothing more.
+    fn next_of(start: u32, number: usize) -> Piece
+        requires { start ≤ 100 }
+    {
+        Piece::NextArgument(Argument {
+            position: Position::ImplicitlyIs(number),
+            position_span: at(start + 1, start + 1),
+            span: at(start, start + 2),
+            format: typed(start + 1, start + 1),
+        })
+    }
+
+    #[test]
+    fn reads_pieces_in_their_order(rt: HostRuntime) -> Result<(), Fail> {
+        let alloc = rt.alloc();
+        assert!(rt; read(alloc, "")?.is_empty(), "no pieces");
+        let braces = read(alloc, "{{}}")?;
+        assert_eq!(rt;
+            braces.as_slice(),
+            [lit(0, 1), lit(2, 3)].as_slice(),
+            "doubled braces"
+        );
+        let inside = read(alloc, "é{{b")?;
+        assert_eq!(rt;
+            inside.as_slice(),
+            [lit(0, 2), lit(2, 3), lit(4, 5)].as_slice(),
+            "in a text"
+        );
+        let behind = read(alloc, "a{}")?;
+        assert_eq!(rt;
+            behind.as_slice(),
+            [lit(0, 1), next_of(1, 0)].as_slice(),
+            "behind a text"
+        );
+        let numbered = read(alloc, "{:.*}{}{0}{}")?;
+        assert_eq!(rt;
+            numbered.as_slice().get(1),
+            Some(&next_of(5, 2)),
+            "behind a star"
+        );
+        assert_eq!(rt;
+            numbered.as_slice().get(3),
+            Some(&next_of(10, 3)),
+            "behind a number"
+        );
+        Ok(())
+    }
+
+    #[test]
+    fn refuses_other_texts(rt: HostRuntime) -> Result<(), Fail> {
+        let cases = [
+            ("{:65536}", 0),
+            ("{65536}", 0),
+            ("{_}", 0),
+            ("{ 0}", 0),
+            ("{:.}", 0),
+            ("{:}<", 0),
+            ("{:5x", 0),
+            ("}", 0),
+            ("{}}", 2),
+            ("{:}}", 3),
+            ("é{", 2),
+            ("a{}{{}", 5),
+        ];
+        for (text, want) in cases {
+            assert_eq!(rt; fault(rt.alloc(), text)?, Some(want), "where {text} ends");
+        }
+        Ok(())
+    }
+
+    // A text, so many times.
+    fn repeated(alloc: Global, text: &str, times: usize) -> Result<String, AllocError> {
+        let mut whole = String::new(alloc);
+        for _ in 0..times {
+            whole.push_str(text)?;
+        }
+        Ok(whole)
+    }
+
+    #[test]
+    fn reads_large_texts(rt: HostRuntime) -> Result<(), Fail> {
+        let alloc = rt.alloc();
+        let many = repeated(alloc, "{}", 1_000_000)?;
+        let pieces = read(alloc, many.as_str())?;
+        assert_eq!(rt; pieces.len(), 1_000_000, "a million placeholders");
+        let Some(Piece::NextArgument(last)) = pieces.as_slice().last() else {
+            panic!(rt; "the last is a placeholder");
+        };
+        assert_eq!(rt;
+            last.position,
+            Position::ImplicitlyIs(999_999),
+            "the last of them"
+        );
+        let long = repeated(alloc, "a", 16_777_216)?;
+        let pieces = read(alloc, long.as_str())?;
+        assert_eq!(rt;
+            pieces.as_slice(),
+            [lit(0, 16_777_216)].as_slice(),
+            "a text without placeholders"
+        );
+        Ok(())
+    }
+}
