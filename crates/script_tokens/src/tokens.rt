@@ -119,3 +119,46 @@ pub fn number(here: Cursor<'_>) -> Option<(u32, Cursor<'_>)>
         Err(_) => None,
     }
 }
+
+#[cfg(test)]
+mod tests {
+    use super::*;
+    use text_cut::begin;
+
+    #[test]
+    fn reads_the_words_of_a_line(rt: HostRuntime) {
+        let start = begin("opt wide_é9 # x\n");
+        assert!(rt; keyword(start, "op").is_none(), "a front of a word");
+        let behind = keyword(start, "opt").expect(&rt, "a keyword");
+        assert!(rt; plain_word(behind).is_none(), "no word begins with a blank");
+        let (word, behind) = plain_word(blanks(behind)).expect(&rt, "a word");
+        assert_eq!(rt; word, "wide_é9", "the word");
+        assert!(rt; line_end(behind).is_none(), "a comment is no line's end");
+        let end = comment(blanks(behind));
+        assert_eq!(rt; end.at, 16, "the comment's end");
+        let after = line_feed(end).expect(&rt, "a line feed");
+        assert_eq!(rt; after.at, 17, "the line's end");
+        assert_eq!(rt; comment(after).at, 17, "no comment");
+    }
+
+    #[test]
+    fn reads_string_tokens(rt: HostRuntime) {
+        let (token, behind) = string(begin(" \"a\\\" b\" \t\n")).expect(&rt, "a string");
+        assert_eq!(rt; token, "\"a\\\" b\"", "the token with its quotes");
+        let after = line_end(behind).expect(&rt, "the line's end");
+        assert_eq!(rt; after.at, 11, "behind the line feed");
+        assert!(rt; string(begin("\"a")).is_none(), "no second quote");
+    }
+
+    #[test]
+    fn reads_numbers_of_32_bits(rt: HostRuntime) {
+        let (value, behind) = number(begin("007 ")).expect(&rt, "a number");
+        assert_eq!(rt; value, 7, "leading zeros");
+        assert_eq!(rt; behind.at, 3, "behind the digits");
+        let (greatest, _) = number(begin("4294967295")).expect(&rt, "the greatest");
+        assert_eq!(rt; greatest, u32::MAX, "the greatest number");
+        assert!(rt; number(begin("4294967296")).is_none(), "one more");
+        assert!(rt; number(begin("12x")).is_none(), "a word goes on");
+        assert!(rt; number(begin("x")).is_none(), "no digit");
+    }
+}
