@@ -348,18 +348,19 @@ mod tests {
     fn places_values(rt: HostRuntime) -> Result<(), Fail> {
         let mut arena = Arena::new(rt.alloc());
         assert!(rt; arena.is_empty());
-        let first = arena.alloc('a')?;
-        let second = arena.alloc('b')?;
+        let first = arena.alloc(1)?;
+        let second = arena.alloc(2)?;
+        arena.alloc(3)?;
         assert_eq!(rt; first, idx(0));
         assert_eq!(rt; second, idx(1));
-        assert_eq!(rt; arena.len(), 2);
+        assert_eq!(rt; arena.len(), 3);
         assert!(rt; !arena.is_empty());
-        assert_eq!(rt; arena.get(first), Some(&'a'));
-        assert_eq!(rt; arena.get(idx(2)), None);
-        assert_eq!(rt; arena[second], 'b');
-        arena[second] = 'c';
-        assert_eq!(rt; arena[first], 'a');
-        assert_eq!(rt; arena[second], 'c');
+        assert_eq!(rt; arena.get(first), Some(&1));
+        assert_eq!(rt; arena.get(idx(3)), None);
+        assert_eq!(rt; arena[second], 2);
+        arena[second] = 5;
+        assert_eq!(rt; arena[first], 1);
+        assert_eq!(rt; arena[second], 5);
         arena.clear();
         assert!(rt; arena.is_empty());
         Ok(())
