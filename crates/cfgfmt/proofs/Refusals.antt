@@ -1,80 +1,163 @@
 -- What a refusal is told by, and what it comes of.
-use Rattle.std.specs.Prelude.{true, ◌≡◌, ◌⊎◌, ℕ, ◌≤◌, false, List, [], length, Option, Err, ◌<◌, IfSome, Some, None}
-use Rattle.std.proofs.Common.{sym, subst, ◌∙◌, inl, inr, arith}
+use Rattle.std.specs.Prelude.{true, ◌≡◌, ◌≢◌, ℕ, ◌≤◌, ◌<◌, false, List, length, Err}
+use Rattle.std.proofs.Common.{sym, ap, subst, ◌∙◌, ◌+◌, inl, inr, arith}
 use Rattle.std.proofs.lemmas.Bool.{true≢false}
+use Rattle.causes.specs.Causes.{Rose}
+use Rattle.streams.specs.Streams.{SourceState, SinkState}
+use Rattle.streams.specs.ReadWrite.{ReadsAll, TakesCount}
+use Rattle.script.specs.Limit.{max_script_len}
 use Rattle.script.specs.declared.script.ScriptError.{ScriptError}
 use Rattle.script.specs.declared.script.ScriptError.TheVariants as error
-use Rattle.streams.specs.Exchange.{AppendsPart}
 use Rattle.script.specs.Fault.{BreakIs}
 use Rattle.script.specs.Script.{IsScript, with_end}
 use Rattle.cfgfmt.specs.declared.session.Session.{Session}
 use Rattle.cfgfmt.specs.declared.refusal.Refusal.{Refusal}
 use Rattle.cfgfmt.specs.declared.refusal.Refusal.TheVariants.{Usage, Syntax, Read, Memory, ArenaFull, TooLong}
-use Rattle.ra_cfg.specs.Options.{Options}
+use Rattle.ra_cfg.specs.Options.{OptionSet}
 use Rattle.hir_lower.specs.declared.call.GatedCall.{GatedCall}
 use Rattle.hir_lower.specs.Lowered.{most_exprs}
-use Rattle.cfgfmt.specs.Refusal.{IsFullRefusal, Outgrows, is_reading_form, line_of, HasCause, IsLowerRefusal, refusal_of}
-use Rattle.cfgfmt.specs.Run.{IsSent, TellsOf, WritesPart, WritesPartOfLine}
+use Rattle.cfgfmt.specs.Session.{IsNew}
+use Rattle.cfgfmt.specs.Refusal.{HasRead, IsFaulty, OutgrowsArena, is_reading_form, status_of, line_of, IsJustified, IsReadRefusal, IsScriptRefusal, IsLowerRefusal, refusal_of}
+use Rattle.cfgfmt.specs.Run.{IsSent, IsTold, Refuses, TellsWhole, TellsFront, is_status}
 
--- bytes that were not read are refused because of the bytes
-pub not_read : (bytes ended : List ℕ) (fault : ScriptError) (refusal : Refusal) → length bytes ≤ 16777216 → ended ≡ with_end bytes → refusal ≡ refusal_of fault
-    → BreakIs (Err fault) ended → IsLowerRefusal bytes refusal
-not_read bytes ended fault refusal fits is becomes breaks =
-    subst (IsLowerRefusal bytes) (sym becomes) (by_fault fault (subst (BreakIs (Err fault)) is breaks))
+-- bytes that are no script are refused because of the bytes
+pub not_script : (bytes ended : List ℕ) (fault : ScriptError) (refusal : Refusal) → length bytes ≤ max_script_len → ended ≡ with_end bytes
+    → refusal ≡ refusal_of fault → BreakIs (Err fault) ended → IsScriptRefusal bytes refusal
+not_script bytes ended fault refusal fits is becomes breaks =
+    subst (IsScriptRefusal bytes) (sym becomes) (by_fault fault (subst (BreakIs (Err fault)) is breaks))
   where
-    by_fault : (fault : ScriptError) → BreakIs (Err fault) (with_end bytes) → IsLowerRefusal bytes (refusal_of fault)
+    by_fault : (fault : ScriptError) → BreakIs (Err fault) (with_end bytes) → IsScriptRefusal bytes (refusal_of fault)
     by_fault (error.Syntax line) breaks = record { fits = fits; is_line = breaks }
     by_fault (error.Memory refused) breaks = tt
 
-module _ (words : List (List ℕ)) (left left_now : Option (List ℕ)) (faults faults_now : ℕ) (written written_now : Option (List ℕ)) (writes writes_now : ℕ) where
-  -- what was sent with another status than 5 was written in part where the status is 5
-  sent_part : (status result : ℕ) (bytes : List ℕ) → (status ≡ 5 → ⊥) → result ≡ 5 → IsSent status result written written_now writes writes_now bytes
-      → AppendsPart written written_now bytes
-  sent_part status result bytes other five (inl whole) = absurd (other (sym whole.0 ∙ five))
-  sent_part status result bytes other five (inr part) = part.1.0
+module _ (words : List (List ℕ)) (old new : SourceState) (right : is_reading_form words ≡ true) where
+  -- a refusal to read the source is justified
+  pub read_justified : (refusal : Refusal) → IsReadRefusal old new refusal → IsJustified words old new refusal
+  read_justified Read found = record { words_are = right; found = found }
+  read_justified Memory found = record { words_are = right; found = found }
+  read_justified TooLong found = record { words_are = right; found = found }
+  read_justified Usage found = absurd found
+  read_justified (Syntax line) found = absurd found
+  read_justified ArenaFull found = absurd found
 
-  -- the status of what was sent is the one that was asked for, or 5
-  sent_status : (status result : ℕ) (bytes : List ℕ) → IsSent status result written written_now writes writes_now bytes → (result ≡ status) ⊎ (result ≡ 5)
-  sent_status status result bytes (inl whole) = inl whole.0
-  sent_status status result bytes (inr part) = inr part.0
+  -- and so is a refusal to read its bytes
+  pub script_justified : (bytes : List ℕ) → ReadsAll old new bytes → (refusal : Refusal) → IsScriptRefusal bytes refusal → IsJustified words old new refusal
+  script_justified bytes read (Syntax line) faulty = record { words_are = right; found = record { bytes = bytes; read = read; holds = faulty } }
+  script_justified bytes read Memory found = record { words_are = right; found = read.calm }
+  script_justified bytes read Usage found = absurd found
+  script_justified bytes read Read found = absurd found
+  script_justified bytes read ArenaFull found = absurd found
+  script_justified bytes read TooLong found = absurd found
 
-  -- wrong words are told as such
-  pub told_words : (refusal : Refusal) (result : ℕ) → HasCause words left left_now faults faults_now refusal → TellsOf refusal result written written_now writes writes_now
-      → is_reading_form words ≡ false → (result ≡ 2) ⊎ (result ≡ 5)
-  told_words Usage result cause told wrong = sent_status 2 result (line_of Usage) told
-  told_words (Syntax line) result cause told wrong = absurd (true≢false (sym cause.0 ∙ wrong))
-  told_words Read result cause told wrong = absurd (true≢false (sym cause.0 ∙ wrong))
-  told_words Memory result cause told wrong = absurd (true≢false (sym cause ∙ wrong))
-  told_words ArenaFull result cause told wrong = absurd (true≢false (sym cause.0 ∙ wrong))
-  told_words TooLong result cause told wrong = absurd (true≢false (sym cause.0 ∙ wrong))
+  -- and one to lower the calls of its script
+  pub lower_justified : (bytes : List ℕ) → ReadsAll old new bytes → length bytes ≤ max_script_len → (options : OptionSet) (calls : List GatedCall) → IsScript bytes options calls
+      → (refusal : Refusal) → IsLowerRefusal (4294967295 < most_exprs options calls) refusal → IsJustified words old new refusal
+  lower_justified bytes read fits options calls script Memory found = record { words_are = right; found = read.calm }
+  lower_justified bytes read fits options calls script ArenaFull many =
+      record { words_are = right; found = record { bytes = bytes; read = read; holds = record { fits = fits; options = options; calls = calls; script = script; many = many } } }
+  lower_justified bytes read fits options calls script Usage found = absurd found
+  lower_justified bytes read fits options calls script (Syntax line) found = absurd found
+  lower_justified bytes read fits options calls script Read found = absurd found
+  lower_justified bytes read fits options calls script TooLong found = absurd found
 
-  -- a refusal that was told in part
-  pub told_part : (session : Session) (refusal : Refusal) (result : ℕ) → session.outcomes.items ≡ [] → HasCause words left left_now faults faults_now refusal
-      → TellsOf refusal result written written_now writes writes_now → result ≡ 5
-      → WritesPart words left left_now faults faults_now written written_now session
-  told_part session refusal result none cause told five = inr (by_refusal refusal cause told)
-    where
-      by_refusal : (refusal : Refusal) → HasCause words left left_now faults faults_now refusal → TellsOf refusal result written written_now writes writes_now
-          → WritesPartOfLine words left left_now faults faults_now written written_now session
-      by_refusal Usage cause told = record { refusal = Usage; cause = cause; part = sent_part 2 result (line_of Usage) (λ e. omega (arith, e)) five told; outcomes = none }
-      by_refusal (Syntax line) cause (inl told) = record { refusal = Syntax line; cause = cause; part = sent_part 3 result (line_of (Syntax line)) (λ e. omega (arith, e)) five told; outcomes = none }
-      by_refusal (Syntax line) cause (inr told) = record { refusal = Memory; cause = cause.0; part = sent_part 6 result (line_of Memory) (λ e. omega (arith, e)) five told; outcomes = none }
-      by_refusal Read cause told = record { refusal = Read; cause = cause; part = sent_part 4 result (line_of Read) (λ e. omega (arith, e)) five told; outcomes = none }
-      by_refusal Memory cause told = record { refusal = Memory; cause = cause; part = sent_part 6 result (line_of Memory) (λ e. omega (arith, e)) five told; outcomes = none }
-      by_refusal ArenaFull cause told = record { refusal = ArenaFull; cause = cause; part = sent_part 8 result (line_of ArenaFull) (λ e. omega (arith, e)) five told; outcomes = none }
-      by_refusal TooLong cause told = record { refusal = TooLong; cause = cause; part = sent_part 9 result (line_of TooLong) (λ e. omega (arith, e)) five told; outcomes = none }
+module _ (words : List (List ℕ)) (old new : SourceState) (sink sink_now : SinkState) (session : Session) (still : IsNew session) (result : ℕ) where
+  -- what was sent with the status of a refusal was written whole, where the status is not 5
+  sent_whole : (refusal : Refusal) → IsJustified words old new refusal → result ≢ 5 → IsSent (status_of refusal) result sink sink_now (line_of refusal)
+      → Refuses words old new session (TellsWhole result sink sink_now)
+  sent_whole refusal cause whole (inl sent) = record { refusal = refusal; cause = cause; told = record { is_status = sent.0; line = sent.1 }; still_new = still }
+  sent_whole refusal cause whole (inr sent) = absurd (whole sent.0)
 
--- a refusal of lowering has its cause in the calls of the script
-pub full_cause : (words : List (List ℕ)) (left left_now : Option (List ℕ)) (faults faults_now : ℕ) (bytes : List ℕ) (options : Options) (calls : List GatedCall) (refusal : Refusal)
-    → is_reading_form words ≡ true → IfSome left (λ all. all ≡ bytes) → length bytes ≤ 16777216 → IsScript bytes options calls
-    → IsFullRefusal (4294967295 < most_exprs options calls) refusal → HasCause words left left_now faults faults_now refusal
-full_cause words left left_now faults faults_now bytes options calls Memory right all fits script full = right
-full_cause words left left_now faults faults_now bytes options calls ArenaFull right all fits script full = (right, of_left left all)
-  where
-    of_left : (left : Option (List ℕ)) → IfSome left (λ all. all ≡ bytes) → IfSome left Outgrows
-    of_left None all = tt
-    of_left (Some same) all = subst Outgrows (sym all) (record { fits = fits; options = options; calls = calls; script = script; many = full })
-full_cause words left left_now faults faults_now bytes options calls (Syntax line) right all fits script full = absurd full
-full_cause words left left_now faults faults_now bytes options calls Usage right all fits script full = absurd full
-full_cause words left left_now faults faults_now bytes options calls Read right all fits script full = absurd full
-full_cause words left left_now faults faults_now bytes options calls TooLong right all fits script full = absurd full
+  -- a refusal that was told by another status than 5 was told whole
+  pub told_whole : (refusal : Refusal) → IsJustified words old new refusal → result ≢ 5 → IsTold refusal result sink sink_now
+      → Refuses words old new session (TellsWhole result sink sink_now)
+  told_whole (Syntax line) cause whole (inl sent) = sent_whole (Syntax line) cause whole sent
+  told_whole (Syntax line) cause whole (inr sent) = sent_whole Memory (record { words_are = cause.words_are; found = cause.found.read.calm }) whole sent
+  told_whole Usage cause whole sent = sent_whole Usage cause whole sent
+  told_whole Read cause whole sent = sent_whole Read cause whole sent
+  told_whole Memory cause whole sent = sent_whole Memory cause whole sent
+  told_whole ArenaFull cause whole sent = sent_whole ArenaFull cause whole sent
+  told_whole TooLong cause whole sent = sent_whole TooLong cause whole sent
+
+  -- what was sent with another status was written in part, where the status is 5
+  sent_front : (refusal : Refusal) → IsJustified words old new refusal → result ≡ 5 → IsSent (status_of refusal) result sink sink_now (line_of refusal)
+      → (status_of refusal ≢ 5) → Refuses words old new session (TellsFront sink sink_now)
+  sent_front refusal cause five (inl sent) other = absurd (other (sym sent.0 ∙ five))
+  sent_front refusal cause five (inr sent) other = record { refusal = refusal; cause = cause; told = sent.1; still_new = still }
+
+  -- a refusal that was told by status 5 was told in part
+  pub told_front : (refusal : Refusal) → IsJustified words old new refusal → result ≡ 5 → IsTold refusal result sink sink_now
+      → Refuses words old new session (TellsFront sink sink_now)
+  told_front (Syntax line) cause five (inl sent) = sent_front (Syntax line) cause five sent (λ e. omega (arith, e))
+  told_front (Syntax line) cause five (inr sent) = sent_front Memory (record { words_are = cause.words_are; found = cause.found.read.calm }) five sent (λ e. omega (arith, e))
+  told_front Usage cause five sent = sent_front Usage cause five sent (λ e. omega (arith, e))
+  told_front Read cause five sent = sent_front Read cause five sent (λ e. omega (arith, e))
+  told_front Memory cause five sent = sent_front Memory cause five sent (λ e. omega (arith, e))
+  told_front ArenaFull cause five sent = sent_front ArenaFull cause five sent (λ e. omega (arith, e))
+  told_front TooLong cause five sent = sent_front TooLong cause five sent (λ e. omega (arith, e))
+
+module _ (words : List (List ℕ)) (old new : SourceState) (result : ℕ) where
+  -- what a status says of the words and of the source, where it is that of a refusal with its cause
+  pub usage_by : (refusal : Refusal) → IsJustified words old new refusal → result ≡ status_of refusal → result ≡ 2 → is_reading_form words ≡ false
+  usage_by Usage cause is two = cause.words_are
+  usage_by (Syntax line) cause is two = absurd (omega (arith, is, two))
+  usage_by Read cause is two = absurd (omega (arith, is, two))
+  usage_by Memory cause is two = absurd (omega (arith, is, two))
+  usage_by ArenaFull cause is two = absurd (omega (arith, is, two))
+  usage_by TooLong cause is two = absurd (omega (arith, is, two))
+
+  pub syntax_by : (refusal : Refusal) → IsJustified words old new refusal → result ≡ status_of refusal → result ≡ 3 → (line : ℕ) × HasRead old new (λ bytes. IsFaulty bytes line)
+  syntax_by (Syntax line) cause is three = (line, cause.found)
+  syntax_by Usage cause is three = absurd (omega (arith, is, three))
+  syntax_by Read cause is three = absurd (omega (arith, is, three))
+  syntax_by Memory cause is three = absurd (omega (arith, is, three))
+  syntax_by ArenaFull cause is three = absurd (omega (arith, is, three))
+  syntax_by TooLong cause is three = absurd (omega (arith, is, three))
+
+  pub read_by : (refusal : Refusal) → IsJustified words old new refusal → result ≡ status_of refusal → result ≡ 4 → Rose old.faults new.faults
+  read_by Read cause is four = cause.found
+  read_by Usage cause is four = absurd (omega (arith, is, four))
+  read_by (Syntax line) cause is four = absurd (omega (arith, is, four))
+  read_by Memory cause is four = absurd (omega (arith, is, four))
+  read_by ArenaFull cause is four = absurd (omega (arith, is, four))
+  read_by TooLong cause is four = absurd (omega (arith, is, four))
+
+  pub full_by : (refusal : Refusal) → IsJustified words old new refusal → result ≡ status_of refusal → result ≡ 8 → HasRead old new OutgrowsArena
+  full_by ArenaFull cause is eight = cause.found
+  full_by Usage cause is eight = absurd (omega (arith, is, eight))
+  full_by (Syntax line) cause is eight = absurd (omega (arith, is, eight))
+  full_by Read cause is eight = absurd (omega (arith, is, eight))
+  full_by Memory cause is eight = absurd (omega (arith, is, eight))
+  full_by TooLong cause is eight = absurd (omega (arith, is, eight))
+
+  pub too_long_by : (refusal : Refusal) → IsJustified words old new refusal → result ≡ status_of refusal → result ≡ 9 → TakesCount old new (max_script_len + 1)
+  too_long_by TooLong cause is nine = cause.found.0
+  too_long_by Usage cause is nine = absurd (omega (arith, is, nine))
+  too_long_by (Syntax line) cause is nine = absurd (omega (arith, is, nine))
+  too_long_by Read cause is nine = absurd (omega (arith, is, nine))
+  too_long_by Memory cause is nine = absurd (omega (arith, is, nine))
+  too_long_by ArenaFull cause is nine = absurd (omega (arith, is, nine))
+
+  pub calm_by : (refusal : Refusal) → IsJustified words old new refusal → result ≡ status_of refusal → result ≢ 4 → new.faults ≡ old.faults
+  calm_by Read cause is other = absurd (other is)
+  calm_by Usage cause is other = ap (λ (s : SourceState). s.faults) cause.found
+  calm_by (Syntax line) cause is other = cause.found.read.calm
+  calm_by Memory cause is other = cause.found
+  calm_by ArenaFull cause is other = cause.found.read.calm
+  calm_by TooLong cause is other = cause.found.1
+
+  pub words_by : (refusal : Refusal) → IsJustified words old new refusal → result ≡ status_of refusal → is_reading_form words ≡ false → result ≡ 2
+  words_by Usage cause is wrong = is
+  words_by (Syntax line) cause is wrong = absurd (true≢false (sym cause.words_are ∙ wrong))
+  words_by Read cause is wrong = absurd (true≢false (sym cause.words_are ∙ wrong))
+  words_by Memory cause is wrong = absurd (true≢false (sym cause.words_are ∙ wrong))
+  words_by ArenaFull cause is wrong = absurd (true≢false (sym cause.words_are ∙ wrong))
+  words_by TooLong cause is wrong = absurd (true≢false (sym cause.words_are ∙ wrong))
+
+  -- a status that is that of a refusal is one that there is
+  pub status_by : (refusal : Refusal) → result ≡ status_of refusal → is_status result ≡ true
+  status_by Usage is = ap is_status is
+  status_by (Syntax line) is = ap is_status is
+  status_by Read is = ap is_status is
+  status_by Memory is = ap is_status is
+  status_by ArenaFull is = ap is_status is
+  status_by TooLong is = ap is_status is

@@ -1,12 +1,14 @@
 -- A refusal has a status, a line and a cause.
-use Rattle.std.specs.Prelude.{◌≡◌, ℕ, ◌<◌, ◌≤◌, length, Bool, true, false, List, [], ◌∷◌, ◌++◌, Option, IfSome, codes}
+use Rattle.std.specs.Prelude.{◌≡◌, ℕ, ◌+◌, ◌<◌, ◌≤◌, length, Bool, true, false, List, [], ◌∷◌, ◌++◌, codes}
 use Rattle.std.specs.Str.{bytes_eq}
 use Rattle.std.specs.Fmt.{decimal}
 use Rattle.hir_lower.specs.declared.call.GatedCall.{GatedCall}
-use Rattle.ra_cfg.specs.Options.{Options}
+use Rattle.ra_cfg.specs.Options.{OptionSet}
 use Rattle.hir_lower.specs.Lowered.{most_exprs}
 use Rattle.causes.specs.Causes.{Rose}
-use Rattle.streams.specs.Exchange.{TakesCount}
+use Rattle.streams.specs.Streams.{SourceState}
+use Rattle.streams.specs.ReadWrite.{ReadsAll, TakesCount}
+use Rattle.script.specs.Limit.{max_script_len}
 use Rattle.script.specs.declared.script.ScriptError.{ScriptError}
 use Rattle.script.specs.declared.script.ScriptError.TheVariants as error
 use Rattle.script.specs.Script.{IsScript, IsFaultLine}
@@ -38,57 +40,72 @@ line_of TooLong = codes "error too long\n"
 
 -- the bytes are few enough, but no script: the first broken item begins in this line
 pub record IsFaulty (bytes : List ℕ) (line : ℕ) : Type 0 where
-  pub fits : length bytes ≤ 16777216
+  pub fits : length bytes ≤ max_script_len
   pub is_line : IsFaultLine bytes line
 
--- the calls of the script place more expressions than an arena holds
-pub record Outgrows (bytes : List ℕ) : Type 0 where
-  pub fits : length bytes ≤ 16777216
-  pub options : Options
+-- the bytes are a script whose calls may place more expressions than an arena holds
+pub record OutgrowsArena (bytes : List ℕ) : Type 0 where
+  pub fits : length bytes ≤ max_script_len
+  pub options : OptionSet
   pub calls : List GatedCall
   pub script : IsScript bytes options calls
   pub many : 4294967295 < most_exprs options calls
 
--- why a refusal comes: what the words are, what the source had left and has left, and its counts of faults. Want of memory is free, but for the words.
-abbrev pub HasCause : List (List ℕ) → Option (List ℕ) → Option (List ℕ) → ℕ → ℕ → Refusal → Type 0
-HasCause words old new before now Usage = is_reading_form words ≡ false
-HasCause words old new before now (Syntax line) = (is_reading_form words ≡ true) × IfSome old (λ bytes. IsFaulty bytes line)
-HasCause words old new before now Read = (is_reading_form words ≡ true) × Rose before now
-HasCause words old new before now Memory = is_reading_form words ≡ true
-HasCause words old new before now ArenaFull = (is_reading_form words ≡ true) × IfSome old Outgrows
-HasCause words old new before now TooLong = (is_reading_form words ≡ true) × TakesCount old new 16777217
+-- the source was read to its end without a fault, and this holds of its bytes
+pub record HasRead (old new : SourceState) (Holds : List ℕ → Type 0) : Type 0 where
+  pub bytes : List ℕ
+  pub read : ReadsAll old new bytes
+  pub holds : Holds bytes
 
--- a refusal leaves the count of the source's faults, but for one that blames the source
-abbrev pub KeepsFaults : ℕ → ℕ → Refusal → Type 0
-KeepsFaults before now Usage = now ≡ before
-KeepsFaults before now (Syntax line) = now ≡ before
-KeepsFaults before now Read = Unit {0}
-KeepsFaults before now Memory = now ≡ before
-KeepsFaults before now ArenaFull = now ≡ before
-KeepsFaults before now TooLong = now ≡ before
+-- what was found in the source, or befell it, where a refusal comes; want of memory may come whatever was found
+abbrev pub IsFound : SourceState → SourceState → Refusal → Type 0
+IsFound old new Usage = new ≡ old
+IsFound old new (Syntax line) = HasRead old new (λ bytes. IsFaulty bytes line)
+IsFound old new Read = Rose old.faults new.faults
+IsFound old new Memory = new.faults ≡ old.faults
+IsFound old new ArenaFull = HasRead old new OutgrowsArena
+IsFound old new TooLong = TakesCount old new (max_script_len + 1) × (new.faults ≡ old.faults)
 
--- a refusal of reading: its cause, and what it leaves of the count of faults
-pub record IsReadRefusal (old new : Option (List ℕ)) (before now : ℕ) (refusal : Refusal) : Type 0 where
-  pub cause : HasCause [] old new before now refusal
-  pub calm : KeepsFaults before now refusal
+-- whether the words ask for a script where a refusal comes: all but that of wrong words come behind words that do
+abbrev pub asks_for_script : Refusal → Bool
+asks_for_script Usage = false
+asks_for_script (Syntax line) = true
+asks_for_script Read = true
+asks_for_script Memory = true
+asks_for_script ArenaFull = true
+asks_for_script TooLong = true
 
--- a refusal of bytes that were read: it comes of the bytes alone
-abbrev pub IsLowerRefusal : List ℕ → Refusal → Type 0
-IsLowerRefusal bytes (Syntax line) = IsFaulty bytes line
-IsLowerRefusal bytes Memory = Unit {0}
-IsLowerRefusal bytes ArenaFull = Outgrows bytes
-IsLowerRefusal bytes Usage = ⊥
-IsLowerRefusal bytes Read = ⊥
-IsLowerRefusal bytes TooLong = ⊥
+-- why a refusal comes: by the words, and by what was found in the source
+pub record IsJustified (words : List (List ℕ)) (old new : SourceState) (refusal : Refusal) : Type 0 where
+  pub words_are : is_reading_form words ≡ asks_for_script refusal
+  pub found : IsFound old new refusal
 
--- a refusal of lowering: want of memory, or an arena that can be full
-abbrev pub IsFullRefusal : Type 0 → Refusal → Type 0
-IsFullRefusal many Memory = Unit {0}
-IsFullRefusal many ArenaFull = many
-IsFullRefusal many (Syntax line) = ⊥
-IsFullRefusal many Usage = ⊥
-IsFullRefusal many Read = ⊥
-IsFullRefusal many TooLong = ⊥
+-- a refusal to read the bytes of a script: it comes of the bytes alone
+abbrev pub IsScriptRefusal : List ℕ → Refusal → Type 0
+IsScriptRefusal bytes (Syntax line) = IsFaulty bytes line
+IsScriptRefusal bytes Memory = Unit {0}
+IsScriptRefusal bytes Usage = ⊥
+IsScriptRefusal bytes Read = ⊥
+IsScriptRefusal bytes ArenaFull = ⊥
+IsScriptRefusal bytes TooLong = ⊥
+
+-- a refusal to lower calls: want of memory, or an arena that can be full
+abbrev pub IsLowerRefusal : Type 0 → Refusal → Type 0
+IsLowerRefusal many Memory = Unit {0}
+IsLowerRefusal many ArenaFull = many
+IsLowerRefusal many (Syntax line) = ⊥
+IsLowerRefusal many Usage = ⊥
+IsLowerRefusal many Read = ⊥
+IsLowerRefusal many TooLong = ⊥
+
+-- a refusal to read a source: a read failed, too many bytes came, or memory was refused
+abbrev pub IsReadRefusal : SourceState → SourceState → Refusal → Type 0
+IsReadRefusal old new Read = Rose old.faults new.faults
+IsReadRefusal old new Memory = new.faults ≡ old.faults
+IsReadRefusal old new TooLong = TakesCount old new (max_script_len + 1) × (new.faults ≡ old.faults)
+IsReadRefusal old new Usage = ⊥
+IsReadRefusal old new (Syntax line) = ⊥
+IsReadRefusal old new ArenaFull = ⊥
 
 -- what a script that was not read becomes
 abbrev pub refusal_of : ScriptError → Refusal

@@ -1,66 +1,71 @@
 -- What `run` does: it answers a script with the printed form of its outcomes, or it refuses, and each refusal has its cause.
-use Rattle.std.specs.Prelude.{◌≡◌, ◌⊎◌, ◌||◌, ℕ, Bool, List, [], Option, IfSome, nat_eq}
-use Rattle.std.specs.Io.KnownBytes.{Appends, IsAtEnd}
-use Rattle.causes.specs.Causes.{Rose}
-use Rattle.streams.specs.Exchange.{AppendsPart}
+use Rattle.std.specs.Prelude.{◌≡◌, ◌⊎◌, ◌||◌, ℕ, Bool, List, nat_eq}
+use Rattle.streams.specs.Streams.{SourceState, SinkState}
+use Rattle.streams.specs.ReadWrite.{ReadsAll, WritesWhole, WritesFront}
 use Rattle.cfgfmt.specs.declared.session.Session.{Session}
 use Rattle.cfgfmt.specs.declared.refusal.Refusal.{Refusal}
-use Rattle.cfgfmt.specs.declared.refusal.Refusal.TheVariants.{Syntax, Memory}
-use Rattle.cfgfmt.specs.Session.{Answers, output_of}
-use Rattle.cfgfmt.specs.Refusal.{status_of, line_of, HasCause, IsFaulty}
+use Rattle.cfgfmt.specs.declared.refusal.Refusal.TheVariants.{Usage, Syntax, Read, Memory, ArenaFull, TooLong}
+use Rattle.cfgfmt.specs.Session.{IsNew, Answers, output_of}
+use Rattle.cfgfmt.specs.Refusal.{status_of, line_of, IsJustified}
 
 -- The headline. What the source had left was read to its end; it is a script; the session has one outcome for each of its calls, in
 -- order; and the sink holds what it held before, followed by the printed form of the session.
-pub record Prints (left left_now written written_now : Option (List ℕ)) (session : Session) : Type 0 where
-  pub answers : IfSome left (λ bytes. Answers bytes session)
-  pub at_end : IsAtEnd left_now
-  pub printed : Appends written written_now (output_of session)
+pub record Prints (source source_now : SourceState) (sink sink_now : SinkState) (session : Session) : Type 0 where
+  pub bytes : List ℕ
+  pub read : ReadsAll source source_now bytes
+  pub answers : Answers bytes session
+  pub printed : WritesWhole sink sink_now (output_of session)
+
+-- the same but for the end: writing failed, and a front of the output was written and not the whole of it
+pub record PrintsFront (source source_now : SourceState) (sink sink_now : SinkState) (session : Session) : Type 0 where
+  pub bytes : List ℕ
+  pub read : ReadsAll source source_now bytes
+  pub answers : Answers bytes session
+  pub printed : WritesFront sink sink_now (output_of session)
+
+-- A refusal came, and it has its cause; it was told in this way, and the session is still new.
+pub record Refuses (words : List (List ℕ)) (source source_now : SourceState) (session : Session) (IsTold : Refusal → Type 0) : Type 0 where
+  pub refusal : Refusal
+  pub cause : IsJustified words source source_now refusal
+  pub told : IsTold refusal
+  pub still_new : IsNew session
+
+-- the refusal was told by its status, and by its line, which was written whole
+pub record TellsWhole (status : ℕ) (sink sink_now : SinkState) (refusal : Refusal) : Type 0 where
+  pub is_status : status ≡ status_of refusal
+  pub line : WritesWhole sink sink_now (line_of refusal)
+
+-- a front of the line of the refusal was written, and not the whole of it, since writing failed
+abbrev pub TellsFront : SinkState → SinkState → Refusal → Type 0
+TellsFront sink sink_now refusal = WritesFront sink sink_now (line_of refusal)
+
+-- what is written where writing fails: a front of the output, or of the line of a refusal
+abbrev pub WritesPart : List (List ℕ) → SourceState → SourceState → SinkState → SinkState → Session → Type 0
+WritesPart words source source_now sink sink_now session =
+    PrintsFront source source_now sink sink_now session ⊎ Refuses words source source_now session (TellsFront sink sink_now)
 
 -- the bytes were written whole, and the status is this one; or writing failed, and the status is 5
-abbrev pub IsSent : ℕ → ℕ → Option (List ℕ) → Option (List ℕ) → ℕ → ℕ → List ℕ → Type 0
-IsSent status result written written_now faults faults_now bytes =
-    ((result ≡ status) × (Appends written written_now bytes × (faults_now ≡ faults)))
-    ⊎ ((result ≡ 5) × (AppendsPart written written_now bytes × Rose faults faults_now))
+abbrev pub IsSent : ℕ → ℕ → SinkState → SinkState → List ℕ → Type 0
+IsSent status result sink sink_now bytes =
+    ((result ≡ status) × WritesWhole sink sink_now bytes) ⊎ ((result ≡ 5) × WritesFront sink sink_now bytes)
 
 -- the line of this refusal was sent, or, for a broken item alone, that of want of memory
-abbrev pub TellsOf : Refusal → ℕ → Option (List ℕ) → Option (List ℕ) → ℕ → ℕ → Type 0
-TellsOf (Syntax line) result written written_now faults faults_now =
-    IsSent 3 result written written_now faults faults_now (line_of (Syntax line))
-    ⊎ IsSent 6 result written written_now faults faults_now (line_of Memory)
-TellsOf refusal result written written_now faults faults_now =
-    IsSent (status_of refusal) result written written_now faults faults_now (line_of refusal)
+abbrev pub IsTold : Refusal → ℕ → SinkState → SinkState → Type 0
+IsTold (Syntax line) result sink sink_now =
+    IsSent 3 result sink sink_now (line_of (Syntax line)) ⊎ IsSent 6 result sink sink_now (line_of Memory)
+IsTold Usage result sink sink_now = IsSent 2 result sink sink_now (line_of Usage)
+IsTold Read result sink sink_now = IsSent 4 result sink sink_now (line_of Read)
+IsTold Memory result sink sink_now = IsSent 6 result sink sink_now (line_of Memory)
+IsTold ArenaFull result sink sink_now = IsSent 8 result sink sink_now (line_of ArenaFull)
+IsTold TooLong result sink sink_now = IsSent 9 result sink sink_now (line_of TooLong)
+
+-- what is to be printed: the source was read to its end, its bytes are a script, and the session answers it
+pub record Makes (source source_now : SourceState) (session : Session) (output : List ℕ) : Type 0 where
+  pub bytes : List ℕ
+  pub read : ReadsAll source source_now bytes
+  pub answers : Answers bytes session
+  pub printed : output ≡ output_of session
 
 -- the statuses that there are
 abbrev pub is_status : ℕ → Bool
 is_status n = nat_eq n 0 || (nat_eq n 2 || (nat_eq n 3 || (nat_eq n 4 || (nat_eq n 5 || (nat_eq n 6 || (nat_eq n 8 || nat_eq n 9))))))
-
--- the line of a refusal with this status was written whole, and there are no outcomes
-pub record Tells (status : ℕ) (written written_now : Option (List ℕ)) (session : Session) : Type 0 where
-  pub refusal : Refusal
-  pub is_its : status ≡ status_of refusal
-  pub line : Appends written written_now (line_of refusal)
-  pub outcomes : session.outcomes.items ≡ []
-
--- the bytes are no script
-pub record HasFault (bytes : List ℕ) : Type 0 where
-  pub line : ℕ
-  pub is_faulty : IsFaulty bytes line
-
--- a front of the output was written, and not the whole; the session stands to the script
-pub record WritesPartOfOutput (left left_now written written_now : Option (List ℕ)) (session : Session) : Type 0 where
-  pub answers : IfSome left (λ bytes. Answers bytes session)
-  pub at_end : IsAtEnd left_now
-  pub part : AppendsPart written written_now (output_of session)
-
--- a front of the line of a refusal that has a cause was written, and not the whole; there are no outcomes
-pub record WritesPartOfLine (words : List (List ℕ)) (left left_now : Option (List ℕ)) (faults faults_now : ℕ) (written written_now : Option (List ℕ)) (session : Session) : Type 0 where
-  pub refusal : Refusal
-  pub cause : HasCause words left left_now faults faults_now refusal
-  pub part : AppendsPart written written_now (line_of refusal)
-  pub outcomes : session.outcomes.items ≡ []
-
--- what is written where the sink fails
-abbrev pub WritesPart : List (List ℕ) → Option (List ℕ) → Option (List ℕ) → ℕ → ℕ → Option (List ℕ) → Option (List ℕ) → Session → Type 0
-WritesPart words left left_now faults faults_now written written_now session =
-    WritesPartOfOutput left left_now written written_now session
-    ⊎ WritesPartOfLine words left left_now faults faults_now written written_now session

@@ -1,8 +1,12 @@
 -- What a session is before a run, and what it stands for after one.
 use Rattle.std.specs.Prelude.{◌≡◌, ◌≤◌, ℕ, List, [], length}
+use Rattle.hir_store.specs.declared.store.ExpressionStore.{ExpressionStore}
+use Rattle.hir_store.specs.Store.{NoDanglingIds, IsEmptyStore}
 use Rattle.hir_lower.specs.declared.call.GatedCall.{GatedCall}
-use Rattle.ra_cfg.specs.Options.{only_true}
-use Rattle.hir_lower.specs.Lowered.{AreOutcomes}
+use Rattle.hir_lower.specs.declared.call.Outcome.{Outcome}
+use Rattle.ra_cfg.specs.Options.{OptionSet, only_true}
+use Rattle.hir_lower.specs.Lowered.{AreOutcomes, AreRising, AreInStore, Lowers}
+use Rattle.script.specs.Limit.{max_script_len}
 use Rattle.script.specs.Script.{IsScript}
 use Rattle.printer.specs.Printed.{printed}
 use Rattle.cfgfmt.specs.declared.session.Session.{Session}
@@ -15,13 +19,25 @@ pub record IsNew (session : Session) : Type 0 where
   pub options : session.options ≡ only_true
   pub outcomes : session.outcomes.items ≡ []
 
+-- the calls were lowered one after the other into a store that was empty, and these outcomes came of them: an off call placed nothing, and
+-- each other one no more than its most
+pub record LowersAll (options : OptionSet) (calls : List GatedCall) (outcomes : List Outcome) (store : ExpressionStore) : Type 0 where
+  pub before : ExpressionStore
+  pub was_empty : IsEmptyStore before
+  pub lowers : Lowers options calls outcomes before store
+
 -- the bytes are few enough, and a script; the session has its options, and one outcome for each of its calls, in order: off exactly
--- where one of the call's predicates reads false under the options, else code that means the writes of the call's text
+-- where one of the call's predicates reads false under the options, else code that means the writes of the call's text; each code is in
+-- the session's store, which has no dangling ids, the codes rise, and the store holds what the calls placed
 pub record Answers (bytes : List ℕ) (session : Session) : Type 0 where
-  pub fits : length bytes ≤ 16777216
+  pub fits : length bytes ≤ max_script_len
   pub calls : List GatedCall
   pub script : IsScript bytes session.options calls
   pub outcomes : AreOutcomes session.options session.collector.store calls session.outcomes.items
+  pub within : AreInStore session.collector.store session.outcomes.items
+  pub rising : AreRising 0 session.outcomes.items
+  pub no_dangling : NoDanglingIds session.collector.store
+  pub lowered : LowersAll session.options calls session.outcomes.items session.collector.store
 
 -- the printed form of a session
 abbrev pub output_of : Session → List ℕ

@@ -2,6 +2,8 @@
 //! The contract of [`run`] says what status 0 means, and why each other status comes.
 #![tactic(auto)]
 
+#[cfg(test)]
+mod callers;
 mod program;
 mod refusal;
 mod session;

@@ -1,20 +1,20 @@
-ghost use Rattle.std.specs.Prelude.{◌≡◌, ◌≢◌, ◌≤◌, ◌<◌, ◌⊎◌, ◌++◌, [], true, false, length, vec_len, map, IfOk, IfErr, IfSome, OnOk, OnErr, IsTrue, string_bytes, codes};
-ghost use Rattle.std.specs.Fmt.{decimal};
-ghost use Rattle.std.specs.Io.KnownBytes.{IsAtEnd};
+ghost use Rattle.std.specs.Prelude.{◌≡◌, ◌≢◌, ◌≤◌, ◌<◌, ◌⊎◌, ◌+◌, [], true, false, vec_len, IfOk, IfErr, OnOk, OnErr, IsTrue};
 ghost use Rattle.causes.specs.Causes.{Rose};
-ghost use Rattle.streams.specs.Exchange.{ReadsAll, TakesCount, AppendsPart};
-ghost use Rattle.cfgfmt.specs.declared.refusal.Refusal.{Refusal};
-ghost use Rattle.cfgfmt.specs.Session.{IsNew, Answers, output_of};
-ghost use Rattle.cfgfmt.specs.Refusal.{is_reading_form, status_of, line_of, HasCause, KeepsFaults, IsFaulty, Outgrows, IsReadRefusal, IsLowerRefusal, IsFullRefusal, refusal_of};
-ghost use Rattle.hir_lower.specs.Lowered.{AreOutcomes, most_exprs};
+ghost use Rattle.streams.specs.Streams.{StaysKnown};
+ghost use Rattle.streams.specs.ReadWrite.{ReadsAll, TakesCount, TakesAtMost};
+ghost use Rattle.hir_lower.specs.Lowered.{AreOutcomes, AreRising, AreInStore, most_exprs};
+ghost use Rattle.hir_store.specs.Store.{NoDanglingIds};
 ghost use Rattle.script.specs.Script.{IsScript};
-ghost use Rattle.cfgfmt.specs.Run.{Prints, IsSent, is_status, Tells, TellsOf, HasFault, WritesPart};
+ghost use Rattle.cfgfmt.specs.declared.refusal.Refusal.{Refusal};
+ghost use Rattle.cfgfmt.specs.Session.{IsNew, LowersAll, output_of};
+ghost use Rattle.cfgfmt.specs.Refusal.{is_reading_form, HasRead, IsFaulty, OutgrowsArena, IsJustified, IsReadRefusal, IsScriptRefusal, IsLowerRefusal, refusal_of};
+ghost use Rattle.cfgfmt.specs.Run.{Prints, Makes, Refuses, TellsWhole, WritesPart, IsSent, IsTold, is_status};
 
 use crate::refusal::Refusal;
 use crate::session::Session;
 use hir_lower::{ExprCollector, LowerError};
 use printer::print_outcomes;
-use script::{MOST, Script, ScriptError, end_last_line, read_ended};
+use script::{MAX_SCRIPT_LEN, Script, ScriptError, end_last_line, read_ended};
 use std::alloc::{AllocError, Global};
 use streams::{ReadRefused, Sink, Source, read_whole, write_whole};
 use sym_core::Symbol;
@@ -32,12 +32,13 @@ fn is_reading_form(words: &[Symbol]) -> bool
 
 // Reads a source to its end.
 fn read_input<S: Source>(alloc: Global, source: &mut S) -> Result<Vec<u8>, Refusal>
-    ensures all { IfOk result (λ bytes. ReadsAll (S.left source.old) (S.left source.new) bytes.items) }
-    ensures fits { IfOk result (λ bytes. vec_len bytes ≤ 16_777_216) }
-    ensures calm { OnOk result (S.faults source.new ≡ S.faults source.old) }
-    ensures refused { IfErr result (IsReadRefusal (S.left source.old) (S.left source.new) (S.faults source.old) (S.faults source.new)) }
+    ensures all { IfOk result (λ bytes. ReadsAll (S.state source.old) (S.state source.new) bytes.items) }
+    ensures fits { IfOk result (λ bytes. vec_len bytes ≤ MAX_SCRIPT_LEN) }
+    ensures refused { IfErr result (IsReadRefusal (S.state source.old) (S.state source.new)) }
+    ensures taken { TakesAtMost (S.state source.old) (S.state source.new) (MAX_SCRIPT_LEN + 1) }
+    ensures known { StaysKnown (S.state source.old).left (S.state source.new).left }
 {
-    match read_whole(alloc, source, MOST) {
+    match read_whole(alloc, source, MAX_SCRIPT_LEN) {
         Ok(bytes) => Ok(bytes),
         Err(ReadRefused::Failed) => Err(Refusal::Read),
         Err(ReadRefused::TooLong) => Err(Refusal::TooLong),
@@ -47,9 +48,9 @@ fn read_input<S: Source>(alloc: Global, source: &mut S) -> Result<Vec<u8>, Refus
 
 // Reads the script that bytes are.
 fn read_bytes(alloc: Global, mut bytes: Vec<u8>) -> Result<Script, Refusal>
-    requires { vec_len bytes ≤ 16_777_216 }
+    requires { vec_len bytes ≤ MAX_SCRIPT_LEN }
     ensures script { IfOk result (λ script. IsScript bytes.items script.options script.calls.items) }
-    ensures refused { IfErr result (IsLowerRefusal bytes.items) }
+    ensures refused { IfErr result (IsScriptRefusal bytes.items) }
 {
     match end_last_line(&mut bytes) {
         Ok(()) => {}
@@ -71,14 +72,17 @@ fn refusal_of(error: ScriptError) -> Refusal
     }
 }
 
-// Lowers the calls of a script into the session, and prints what becomes of them.
+// Lowers the calls of a script into the session, and prints what becomes of them. A refusal leaves the session as it was.
 fn lower(alloc: Global, script: Script, session: &mut Session) -> Result<Vec<u8>, Refusal>
-    requires { session.old.outcomes.items ≡ [] }
     ensures options { OnOk result (session.new.options ≡ script.options) }
     ensures outcomes { OnOk result (AreOutcomes script.options session.new.collector.store script.calls.items session.new.outcomes.items) }
+    ensures within { OnOk result (AreInStore session.new.collector.store session.new.outcomes.items) }
+    ensures rising { OnOk result (AreRising 0 session.new.outcomes.items) }
+    ensures no_dangling { OnOk result (NoDanglingIds session.new.collector.store) }
+    ensures lowered { OnOk result (LowersAll script.options script.calls.items session.new.outcomes.items session.new.collector.store) }
     ensures printed { IfOk result (λ output. output.items ≡ output_of session.new) }
-    ensures none { OnErr result (session.new.outcomes.items ≡ []) }
-    ensures refused { IfErr result (IsFullRefusal (4_294_967_295 < most_exprs script.options script.calls.items)) }
+    ensures kept { OnErr result (session.new ≡ session.old) }
+    ensures refused { IfErr result (IsLowerRefusal (4_294_967_295 < most_exprs script.options script.calls.items)) }
 {
     let Script { options, calls } = script;
     let mut collector = ExprCollector::new(alloc);
@@ -97,22 +101,20 @@ fn lower(alloc: Global, script: Script, session: &mut Session) -> Result<Vec<u8>
     Ok(output)
 }
 
-// What is to be printed, and the session that it stands for.
+// What is to be printed, and the session that it stands for. A refusal leaves the session as it was.
 fn answer<S: Source>(
     alloc: Global,
     words: &[Symbol],
     source: &mut S,
     session: &mut Session,
 ) -> Result<Vec<u8>, Refusal>
-    requires { session.old.outcomes.items ≡ [] }
     ensures words { OnOk result (is_reading_form words.now ≡ true) }
-    ensures answers { OnOk result (IfSome (S.left source.old) (λ bytes. Answers bytes session.new)) }
-    ensures at_end { OnOk result (IsAtEnd (S.left source.new)) }
-    ensures calm { OnOk result (S.faults source.new ≡ S.faults source.old) }
-    ensures printed { IfOk result (λ output. output.items ≡ output_of session.new) }
-    ensures none { OnErr result (session.new.outcomes.items ≡ []) }
-    ensures cause { IfErr result (HasCause words.now (S.left source.old) (S.left source.new) (S.faults source.old) (S.faults source.new)) }
-    ensures kept { IfErr result (KeepsFaults (S.faults source.old) (S.faults source.new)) }
+    ensures made { IfOk result (λ output. Makes (S.state source.old) (S.state source.new) session.new output.items) }
+    ensures refused { IfErr result (IsJustified words.now (S.state source.old) (S.state source.new)) }
+    ensures kept { OnErr result (session.new ≡ session.old) }
+    ensures unread { is_reading_form words.now ≡ false → source.new ≡ source.old }
+    ensures taken { TakesAtMost (S.state source.old) (S.state source.new) (MAX_SCRIPT_LEN + 1) }
+    ensures known { StaysKnown (S.state source.old).left (S.state source.new).left }
 {
     if !is_reading_form(words) {
         return Err(Refusal::Usage);
@@ -125,7 +127,8 @@ fn answer<S: Source>(
 
 // Writes bytes and ends with a status, or with 5 where writing fails.
 fn send<K: Sink>(sink: &mut K, bytes: &[u8], status: u8) -> u8
-    ensures { IsSent status result (K.written sink.old) (K.written sink.new) (K.faults sink.old) (K.faults sink.new) bytes.now }
+    ensures sent { IsSent status result (K.state sink.old) (K.state sink.new) bytes.now }
+    ensures known { StaysKnown (K.state sink.old).written (K.state sink.new).written }
 {
     match write_whole(sink, bytes) {
         Ok(()) => status,
@@ -135,7 +138,8 @@ fn send<K: Sink>(sink: &mut K, bytes: &[u8], status: u8) -> u8
 
 // Writes the line of a broken item, or that of want of memory where there is none for the line.
 fn tell_line<K: Sink>(alloc: Global, sink: &mut K, line: u64) -> u8
-    ensures { TellsOf (Refusal.Syntax line) result (K.written sink.old) (K.written sink.new) (K.faults sink.old) (K.faults sink.new) }
+    ensures told { IsTold (Refusal.Syntax line) result (K.state sink.old) (K.state sink.new) }
+    ensures known { StaysKnown (K.state sink.old).written (K.state sink.new).written }
 {
     match format!(in alloc; "error syntax at line {line}\n") {
         Ok(text) => send(sink, text.as_bytes(), 3),
@@ -145,7 +149,8 @@ fn tell_line<K: Sink>(alloc: Global, sink: &mut K, line: u64) -> u8
 
 // Writes the line of a refusal.
 fn tell<K: Sink>(alloc: Global, sink: &mut K, refusal: Refusal) -> u8
-    ensures { TellsOf refusal result (K.written sink.old) (K.written sink.new) (K.faults sink.old) (K.faults sink.new) }
+    ensures told { IsTold refusal result (K.state sink.old) (K.state sink.new) }
+    ensures known { StaysKnown (K.state sink.old).written (K.state sink.new).written }
 {
     match refusal {
         Refusal::Usage => send(sink, b"error usage\n", 2),
@@ -163,6 +168,14 @@ fn tell<K: Sink>(alloc: Global, sink: &mut K, refusal: Refusal) -> u8
 /// The words are the program's arguments without its name: none, or the one word `run`. The whole output is made before
 /// the first byte of it is written.
 ///
+/// ```
+/// let mut source = MemSource::new(b"format \"hi\"".to_vec(alloc)?, 4096, Vec::new(alloc));
+/// let mut sink = MemSink::new(alloc, 1_000, 1_000, Vec::new(alloc))?;
+/// let mut session = Session::new(alloc)?;
+/// assert_eq!(run(alloc, &[], &mut source, &mut sink, &mut session), 0);
+/// assert_eq!(sink.bytes(), b"0 code Arguments::from_str(s\"6869\")\n".as_slice());
+/// ```
+///
 /// # Errors
 ///
 /// A status other than 0 comes with a line of its own in place of the output: 2 for other words, 3 where the bytes are no
@@ -179,25 +192,31 @@ pub fn run<S: Source, K: Sink>(
     requires { IsNew session.old }
 
     // The headline.
-    ensures prints { result ≡ 0 → Prints (S.left source.old) (S.left source.new) (K.written sink.old) (K.written sink.new) session.new }
+    ensures prints { result ≡ 0 → Prints (S.state source.old) (S.state source.new) (K.state sink.old) (K.state sink.new) session.new }
 
-    // Why each other status comes, and that there is no further one.
-    ensures usage { result ≡ 2 → is_reading_form words.now ≡ false }
-    ensures syntax { result ≡ 3 → IfSome (S.left source.old) HasFault }
-    ensures read { result ≡ 4 → Rose (S.faults source.old) (S.faults source.new) }
-    ensures write { result ≡ 5 → Rose (K.faults sink.old) (K.faults sink.new) }
-    ensures full { result ≡ 8 → IfSome (S.left source.old) Outgrows }
-    ensures too_long { result ≡ 9 → TakesCount (S.left source.old) (S.left source.new) 16_777_217 }
+    // Every other answer is a refusal that has its cause, told by its line, or a part of the output or of such a line.
+    ensures refuses { result ≢ 0 → result ≢ 5 → Refuses words.now (S.state source.old) (S.state source.new) session.new (TellsWhole result (K.state sink.old) (K.state sink.new)) }
+    ensures part { result ≡ 5 → WritesPart words.now (S.state source.old) (S.state source.new) (K.state sink.old) (K.state sink.new) session.new }
     ensures statuses { IsTrue (is_status result) }
 
-    // Wrong words are never answered otherwise, and no fault is passed over.
-    ensures words { is_reading_form words.now ≡ false → (result ≡ 2) ⊎ (result ≡ 5) }
-    ensures source_calm { result ≢ 4 → result ≢ 5 → S.faults source.new ≡ S.faults source.old }
-    ensures sink_calm { result ≢ 5 → K.faults sink.new ≡ K.faults sink.old }
+    // What this says of each status.
+    ensures usage { result ≡ 2 → is_reading_form words.now ≡ false }
+    ensures syntax { result ≡ 3 → (line : _) × HasRead (S.state source.old) (S.state source.new) (λ bytes. IsFaulty bytes line) }
+    ensures read { result ≡ 4 → Rose (S.state source.old).faults (S.state source.new).faults }
+    ensures write { result ≡ 5 → Rose (K.state sink.old).faults (K.state sink.new).faults }
+    ensures full { result ≡ 8 → HasRead (S.state source.old) (S.state source.new) OutgrowsArena }
+    ensures too_long { result ≡ 9 → TakesCount (S.state source.old) (S.state source.new) (MAX_SCRIPT_LEN + 1) }
 
-    // What is written and what the session is, whatever the status.
-    ensures line { result ≢ 0 → result ≢ 5 → Tells result (K.written sink.old) (K.written sink.new) session.new }
-    ensures part { result ≡ 5 → WritesPart words.now (S.left source.old) (S.left source.new) (S.faults source.old) (S.faults source.new) (K.written sink.old) (K.written sink.new) session.new }
+    // Wrong words are never answered otherwise, and nothing is then read. No fault is passed over.
+    ensures words { is_reading_form words.now ≡ false → (result ≡ 2) ⊎ (result ≡ 5) }
+    ensures unread { is_reading_form words.now ≡ false → source.new ≡ source.old }
+    ensures source_calm { result ≢ 4 → result ≢ 5 → (S.state source.new).faults ≡ (S.state source.old).faults }
+    ensures sink_calm { result ≢ 5 → (K.state sink.new).faults ≡ (K.state sink.old).faults }
+
+    // What is taken from the source, whatever the status.
+    ensures taken { TakesAtMost (S.state source.old) (S.state source.new) (MAX_SCRIPT_LEN + 1) }
+    ensures source_known { StaysKnown (S.state source.old).left (S.state source.new).left }
+    ensures sink_known { StaysKnown (K.state sink.old).written (K.state sink.new).written }
 {
     match answer(alloc, words, source, session) {
         Ok(output) => send(sink, &output, 0),

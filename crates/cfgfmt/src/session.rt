@@ -5,6 +5,8 @@ use ra_cfg::CfgOptions;
 use std::alloc::{AllocError, Global};
 
 /// What a run leaves: the options of the script, the store with the code of its calls, and what became of each call.
+///
+/// A run that refuses leaves the session as it was, so that it may be used for another one.
 #[derive(Drop)]
 pub struct Session {
     /// The collector that lowered the calls, with its store.

@@ -5,24 +5,24 @@ use Rattle.sym_core.specs.declared.name.Name.TheVariants as name
 use Rattle.hir_store.specs.declared.lang_item.LangItem.TheVariants.{FormatArguments, FormatArgument}
 use Rattle.hir_store.specs.declared.lang_item.LangFn.TheVariants.{New, FromStr, NewDisplay, FromUsize}
 use Rattle.hir_store.specs.Tree.{Tree, Missing, Leaf, Path, LangPath, Text, Bytes, Ref, Tuple, Field, Array, Call, Block, Empty, More, Tail, Let, Do}
-use Rattle.code_meaning.specs.Write.{Display, Right, Options, NoCount, Is, Of, Byte, Put, Literal, Placeholder, writes_of}
+use Rattle.code_meaning.specs.Write.{Display, Right, FormattingOptions, NoCount, Is, Of, Byte, Put, Literal, Placeholder, writes_of}
 use Rattle.code_meaning.specs.Value.{Event, LeafEvent, NameEvent, Value, At, FromText, Arguments, Made, By, AsCount}
 use Rattle.code_meaning.specs.Value as value
 use Rattle.code_meaning.specs.Evaluation.{evaluation_of}
-use Rattle.code_meaning.specs.Template.{Item, ByteItem, SlotItem, decoded}
+use Rattle.code_meaning.specs.Template.{TemplateItem, ByteItem, SlotItem, decoded}
 use Rattle.code_meaning.specs.Meaning.{meaning}
 
 -- a space as fill, and nothing else
-plain : Options
+plain : FormattingOptions
 plain = record { fill = 32; alignment = None; sign = None; alternate = false; zero_pad = false; debug_hex = None }
 
-zero_padded : Options
+zero_padded : FormattingOptions
 zero_padded = record { fill = 32; alignment = None; sign = None; alternate = false; zero_pad = true; debug_hex = None }
 
-to_the_right : Options
+to_the_right : FormattingOptions
 to_the_right = record { fill = 32; alignment = Some Right; sign = None; alternate = false; zero_pad = false; debug_hex = None }
 
-slot : ℕ → Item
+slot : ℕ → TemplateItem
 slot place = SlotItem (record { place = place; options = plain; width = NoCount; precision = NoCount })
 
 -- `x{}y{{`

@@ -1,8 +1,8 @@
 -- The list of writes that a value means.
 use Rattle.std.specs.Prelude.{ℕ, List, [], ◌∷◌, Option, Some, None, map}
-use Rattle.code_meaning.specs.Write.{Options, Count, NoCount, Is, Of, Write, Byte, Put}
+use Rattle.code_meaning.specs.Write.{FormattingOptions, Count, NoCount, Is, Of, Write, Byte, Put}
 use Rattle.code_meaning.specs.Value.{By, AsCount, Value, Values, Made, Arguments, FromText, value_at}
-use Rattle.code_meaning.specs.Template.{Slot, Item, ByteItem, SlotItem, decoded}
+use Rattle.code_meaning.specs.Template.{Slot, TemplateItem, ByteItem, SlotItem, decoded}
 
 -- the writes of values
 abbrev pub Writes : Type 0
@@ -20,7 +20,7 @@ count_in vs (Is n) = Some (Is n)
 count_in vs (Of place) = counted (value_at vs place)
 
 -- an argument made for a trait, put with these options and counts
-abbrev pub put_with : Option Value → Options → Option (Count Value) → Option (Count Value) → Option (Write Value)
+abbrev pub put_with : Option Value → FormattingOptions → Option (Count Value) → Option (Count Value) → Option (Write Value)
 put_with (Some (Made (By by) v)) options (Some width) (Some precision) =
     Some (Put v (record { by = by; options = options; width = width; precision = precision }))
 put_with _ options _ _ = None
@@ -34,12 +34,12 @@ in_front (Some write) (Some writes) = Some (write ∷ writes)
 in_front _ _ = None
 
 -- the writes of bytes and slots over a list of arguments
-abbrev pub writes_in : Values → List Item → Option Writes
+abbrev pub writes_in : Values → List TemplateItem → Option Writes
 writes_in vs [] = Some []
 writes_in vs (ByteItem b ∷ items) = in_front (Some (Byte b)) (writes_in vs items)
 writes_in vs (SlotItem slot ∷ items) = in_front (put_of vs slot) (writes_in vs items)
 
-abbrev pub writes_over : Values → Option (List Item) → Option Writes
+abbrev pub writes_over : Values → Option (List TemplateItem) → Option Writes
 writes_over vs None = None
 writes_over vs (Some items) = writes_in vs items
 

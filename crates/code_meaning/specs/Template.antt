@@ -8,18 +8,18 @@
 --
 -- Numbers stand low byte first. Whatever is not listed decodes to nothing.
 use Rattle.std.specs.Prelude.{ℕ, zero, suc, ◌+◌, ◌*◌, ◌/◌, ◌%◌, ◌^◌, Bool, true, false, ◌&&◌, ◌||◌, not, cond, List, [], ◌∷◌, nat_eq, nat_lt, Option, Some, None, unwrap_or}
-use Rattle.code_meaning.specs.Write.{Alignment, Left, Right, Center, Sign, Plus, Minus, DebugHex, Lower, Upper, Options, Count, NoCount, Is, Of}
+use Rattle.code_meaning.specs.Write.{Alignment, Left, Right, Center, Sign, Plus, Minus, DebugHex, Lower, Upper, FormattingOptions, Count, NoCount, Is, Of}
 
 -- a slot for one argument: its place among the arguments, options, and counts that may be the places of arguments
 pub record Slot : Type 0 where
   pub place : ℕ
-  pub options : Options
+  pub options : FormattingOptions
   pub width : Count ℕ
   pub precision : Count ℕ
 
-pub data Item : Type 0 where
-  ByteItem : ℕ → Item
-  SlotItem : Slot → Item
+pub data TemplateItem : Type 0 where
+  ByteItem : ℕ → TemplateItem
+  SlotItem : Slot → TemplateItem
 
 -- the bit of a number at a place
 abbrev pub bit : ℕ → ℕ → Bool
@@ -57,7 +57,7 @@ abbrev pub are_flags : ℕ → Bool
 are_flags flags =
     is_scalar (fill_of flags) && (not (bit 31 flags) && (not (bit 21 flags && bit 22 flags) && not (bit 25 flags && bit 26 flags)))
 
-abbrev pub options_of : ℕ → Options
+abbrev pub options_of : ℕ → FormattingOptions
 options_of flags = record {
   fill = fill_of flags;
   alignment = alignment_of (bit 29 flags) (bit 30 flags);
@@ -80,7 +80,7 @@ count_from true (Some n) false = Some (Is n)
 count_from true (Some n) true = Some (Of n)
 count_from _ _ _ = None
 
-abbrev pub slot_with : ℕ → Options → Option (Count ℕ) → Option (Count ℕ) → Option Slot
+abbrev pub slot_with : ℕ → FormattingOptions → Option (Count ℕ) → Option (Count ℕ) → Option Slot
 slot_with place options (Some width) (Some precision) = Some (record { place = place; options = options; width = width; precision = precision })
 slot_with place options _ _ = None
 
@@ -134,39 +134,39 @@ fields_size is_wide first =
     + bytes_if (bit 3 first) (cond is_wide 4 2)))
 
 -- an item in front of those behind it
-abbrev pub with_item : Item → Option (List Item) → Option (List Item)
+abbrev pub with_item : TemplateItem → Option (List TemplateItem) → Option (List TemplateItem)
 with_item item None = None
 with_item item (Some items) = Some (item ∷ items)
 
 -- this many bytes of a literal, in front of the items behind them
-abbrev pub with_bytes : ℕ → List ℕ → Option (List Item) → Option (List Item)
+abbrev pub with_bytes : ℕ → List ℕ → Option (List TemplateItem) → Option (List TemplateItem)
 with_bytes zero bytes more = more
 with_bytes (suc n) [] more = None
 with_bytes (suc n) (b ∷ bytes) more = with_item (ByteItem b) (with_bytes n bytes more)
 
 -- a slot in front of the items behind it, which begin at the place after its own
-abbrev pub with_slot : Option Slot → (ℕ → Option (List Item)) → Option (List Item)
+abbrev pub with_slot : Option Slot → (ℕ → Option (List TemplateItem)) → Option (List TemplateItem)
 with_slot None go = None
 with_slot (Some slot) go = with_item (SlotItem slot) (go (suc slot.place))
 
 -- the end is the last byte
-abbrev pub at_end : List ℕ → Option (List Item)
+abbrev pub at_end : List ℕ → Option (List TemplateItem)
 at_end [] = Some []
 at_end (b ∷ bytes) = None
 
 -- a literal with a length of two bytes; `go` reads on behind so many bytes and the length
-abbrev pub long_literal : List ℕ → (ℕ → Option (List Item)) → Option (List Item)
+abbrev pub long_literal : List ℕ → (ℕ → Option (List TemplateItem)) → Option (List TemplateItem)
 long_literal (low ∷ high ∷ rest) go = with_bytes (low + 256 * high) rest (go (low + 256 * high))
 long_literal _ go = None
 
 -- a wide slot, from its first byte on; `go` reads on behind that byte and so many bytes of fields
-abbrev pub wide_slot : ℕ → List ℕ → (ℕ → ℕ → Option (List Item)) → Option (List Item)
+abbrev pub wide_slot : ℕ → List ℕ → (ℕ → ℕ → Option (List TemplateItem)) → Option (List TemplateItem)
 wide_slot next [] go = None
 wide_slot next (first ∷ rest) go =
     cond (nat_lt first 192) None (with_slot (slot_at next true first rest) (λ place. go place (fields_size true first)))
 
 -- the items of template bytes, of which the first `passed` were read already; `next` is one more than the place of the slot before
-abbrev pub items_of : ℕ → ℕ → List ℕ → Option (List Item)
+abbrev pub items_of : ℕ → ℕ → List ℕ → Option (List TemplateItem)
 items_of next passed [] = None
 items_of next (suc passed) (b ∷ bytes) = items_of next passed bytes
 items_of next zero (b ∷ bytes) =
@@ -178,5 +178,5 @@ items_of next zero (b ∷ bytes) =
     (with_slot (slot_at next false b bytes) (λ place. items_of place (fields_size false b) bytes))))))
 
 -- template bytes decode to these bytes and slots
-abbrev pub decoded : List ℕ → Option (List Item)
+abbrev pub decoded : List ℕ → Option (List TemplateItem)
 decoded bytes = items_of 0 0 bytes

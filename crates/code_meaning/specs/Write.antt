@@ -28,7 +28,7 @@ pub data DebugHex : Type 0 where
   Upper : DebugHex
 
 -- the options of a placeholder but for its counts: std::fmt, section "Formatting Parameters"
-pub record Options : Type 0 where
+pub record FormattingOptions : Type 0 where
   -- a character; a space where none is written
   pub fill : ℕ
   pub alignment : Option Alignment
@@ -46,7 +46,7 @@ pub data Count (A : Type 0) : Type 0 where
 -- what is asked of one value: a trait, options and counts
 pub record Asked (A : Type 0) : Type 0 where
   pub by : Trait
-  pub options : Options
+  pub options : FormattingOptions
   pub width : Count A
   pub precision : Count A
 

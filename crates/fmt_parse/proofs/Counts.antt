@@ -12,12 +12,12 @@ use Rattle.text_cut.specs.Rules.{Spells, Reads}
 use Rattle.text_cut.proofs.Sizes.{size_append}
 use Rattle.text_cut.proofs.Runs.{behind_of}
 use Rattle.text_cut.proofs.Rules.{took_none, took_one, took_both}
-use Rattle.text_cut.proofs.Options.{chosen, mapped, none_some}
+use Rattle.text_cut.proofs.OptionLaws.{chosen, mapped, none_some}
 use Rattle.fmt_parse.specs.declared.piece.Count.TheVariants as count
 use Rattle.fmt_parse.specs.Tokens.{range, IsInt, IsName, starts_name, is_dollar, is_dot, is_star}
-use Rattle.fmt_parse.specs.Options.{Counted, no_count, starts_dollar_name, IsNoCount, IsNumber, IsParam, IsNamedCount, IsCount, is_counted, IsStarred, IsCounted, IsPrecision}
+use Rattle.fmt_parse.specs.Spec.{Counted, no_count, starts_dollar_name, IsNoCount, IsNumber, IsParam, IsNamedCount, IsCount, is_counted, IsStarred, IsCounted, IsPrecision}
 use Rattle.fmt_parse.specs.ReadTokens.{between, int_at, name_at}
-use Rattle.fmt_parse.specs.ReadOptions.{numbered, number_count_at, dollar_behind, name_count_at, count_at, starred, if_counted, precise_at, behind_dot, precision_at}
+use Rattle.fmt_parse.specs.ReadSpec.{numbered, number_count_at, dollar_behind, name_count_at, count_at, starred, if_counted, precise_at, behind_dot, precision_at}
 use Rattle.fmt_parse.proofs.Tokens.{starts_front, int_reads, name_front, name_found, NameIs, name_is}
 use Rattle.fmt_parse.proofs.Flags.{range_is}
 

@@ -8,13 +8,13 @@ use Rattle.text_cut.specs.Runs.{starts, size}
 use Rattle.text_cut.specs.Place.{Place, place, first, Took}
 use Rattle.text_cut.specs.Rules.{Spells, Reads}
 use Rattle.text_cut.proofs.Rules.{took_none, took_one, took_both}
-use Rattle.text_cut.proofs.Options.{chosen, mapped}
+use Rattle.text_cut.proofs.OptionLaws.{chosen, mapped}
 use Rattle.fmt_parse.specs.declared.piece.Alignment.{Alignment}
 use Rattle.fmt_parse.specs.declared.piece.Alignment.TheVariants.{Unknown}
 use Rattle.fmt_parse.specs.Tokens.{range, is_question, is_x, is_align, starts_name, IsName}
-use Rattle.fmt_parse.specs.Options.{IsAlign, align_of, hex_of, Typed, IsNoType, IsQuestion, IsHexQuestion, IsHex, IsNamedType, IsType}
+use Rattle.fmt_parse.specs.Spec.{IsAlign, align_of, hex_of, Typed, IsNoType, IsQuestion, IsHexQuestion, IsHex, IsNamedType, IsType}
 use Rattle.fmt_parse.specs.ReadTokens.{between, name_at}
-use Rattle.fmt_parse.specs.ReadOptions.{align_at, filled_at, question_at, hex_at, name_type_at, type_at}
+use Rattle.fmt_parse.specs.ReadSpec.{align_at, filled_at, question_at, hex_at, name_type_at, type_at}
 use Rattle.fmt_parse.proofs.Tokens.{name_front, name_found, NameIs, name_is}
 
 abbrev Aligned : Type 0

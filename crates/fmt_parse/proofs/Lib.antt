@@ -6,3 +6,4 @@ pub mod Pieces
 pub mod Readings
 pub mod Numbers
 pub mod PiecesSoFar
+pub mod Ranges

@@ -10,14 +10,14 @@ use Rattle.text_cut.specs.Rules.{Spells, Reads}
 use Rattle.text_cut.proofs.Sizes.{size_append}
 use Rattle.text_cut.proofs.Runs.{front_is}
 use Rattle.text_cut.proofs.Rules.{took_none, took_one, took_both, both_reads, one_reads, past_is, past_run}
-use Rattle.text_cut.proofs.Options.{chosen, mapped, none_some}
+use Rattle.text_cut.proofs.OptionLaws.{chosen, mapped, none_some}
 use Rattle.fmt_parse.specs.declared.piece.Position.TheVariants as position
 use Rattle.fmt_parse.specs.Tokens.{IsInt, IsName, starts_name, is_close, is_colon}
-use Rattle.fmt_parse.specs.Options.{sign_test, sign_of, hash_test, zero_test, flag, Parts, AreParts, plain_parts, IsFormat}
+use Rattle.fmt_parse.specs.Spec.{sign_test, sign_of, hash_test, zero_test, flag, SpecParts, AreParts, plain_parts, IsFormat}
 use Rattle.fmt_parse.specs.Pieces.{Written, IsNoArg, IsNumberArg, IsNameArg, IsArg, IsEnd, IsInner}
 use Rattle.fmt_parse.specs.ReadTokens.{between, int_at, name_at}
-use Rattle.fmt_parse.specs.ReadOptions.{parts_at, behind_colon, format_at}
-use Rattle.fmt_parse.specs.ReadPieces.{number_arg_at, name_arg_at, arg_at, closed, end_at, inner_at}
+use Rattle.fmt_parse.specs.ReadSpec.{parts_at, behind_colon, format_at}
+use Rattle.fmt_parse.specs.ReadPieces.{number_arg_at, name_arg_at, arg_at, closing_brace, end_at, inner_at}
 use Rattle.fmt_parse.proofs.Tokens.{starts_front, int_reads, name_front, name_found, NameIs, name_is}
 use Rattle.fmt_parse.proofs.Flags.{range_is, align_reads, type_reads}
 use Rattle.fmt_parse.proofs.Counts.{count_reads, precision_reads}
@@ -110,18 +110,18 @@ module _ (number : ℕ) where
       (both_reads _ _ _ _ count_reads
       (both_reads _ _ _ _ (precision_reads number) type_reads)))))
 
-  format_found : (at : ℕ) (text : List ℕ) (v : Parts) (rest : List ℕ) → IsFormat number at text v rest → format_at number (place at (text ++ rest)) ≡ Some (v, place (at + size text) rest)
+  format_found : (at : ℕ) (text : List ℕ) (v : SpecParts) (rest : List ℕ) → IsFormat number at text v rest → format_at number (place at (text ++ rest)) ≡ Some (v, place (at + size text) rest)
   unfolding format_at
   format_found at [] v rest h =
       ap (λ b. cond b (option_and_then (behind_colon number) (first (place at rest))) (Some (plain_parts at, place at rest))) h.0
-      ∙ (ap (λ (w : Parts). Some (w, place at rest)) (sym h.1)
+      ∙ (ap (λ (w : SpecParts). Some (w, place at rest)) (sym h.1)
       ∙ ap (λ n. Some (v, place n rest)) (omega arith))
   format_found at (c ∷ text) v rest h =
       ap (λ b. cond b (parts_at number (place (at + len_utf8 c) (text ++ rest))) (Some (plain_parts at, place at (c ∷ (text ++ rest))))) h.0
       ∙ (parts_reads.found (at + len_utf8 c) text v rest h.1
       ∙ ap (λ n. Some (v, place n rest)) (omega arith))
 
-  format_in : (at : ℕ) (cs : List ℕ) (r : Parts × Place) → format_at number (place at cs) ≡ Some r → Spells (IsFormat number) (place at cs) r
+  format_in : (at : ℕ) (cs : List ℕ) (r : SpecParts × Place) → format_at number (place at cs) ≡ Some r → Spells (IsFormat number) (place at cs) r
   unfolding format_at
   format_in at [] r found = subst (λ z. Spells (IsFormat number) (place at []) z) (same_Some _ _ found) (record { text = []; took = took_none (place at []); rule = (refl, refl) })
   format_in at (c ∷ cs) r found = chosen (is_colon c) (parts_at number (place (at + len_utf8 c) cs)) (Some (plain_parts at, place at (c ∷ cs))) (Some r) found
@@ -143,11 +143,11 @@ end_found : (at : ℕ) (text : List ℕ) (v : Unit {0}) (rest : List ℕ) → Is
 unfolding end_at
 end_found at text v rest h =
     let cut : text ++ rest ≡ h.blanks ++ 125 ∷ rest = ap (λ l. l ++ rest) h.whole ∙ append_assoc h.blanks (125 ∷ []) rest in
-    ap (λ l. closed (past is_whitespace (place at l))) cut
-    ∙ (ap (λ e. closed e) (past_run is_whitespace h.blanks (125 ∷ rest) at h.longest)
+    ap (λ l. closing_brace (past is_whitespace (place at l))) cut
+    ∙ (ap (λ e. closing_brace e) (past_run is_whitespace h.blanks (125 ∷ rest) at h.longest)
     ∙ ap (λ n. Some (v, place n rest)) (let sized = ap size h.whole in omega (arith, sized, size_append h.blanks (125 ∷ []))))
 
-closed_in : (at : ℕ) (cs : List ℕ) (r : Unit {0} × Place) → closed (place at cs) ≡ Some r → Took (place at cs) r.1 (125 ∷ [])
+closed_in : (at : ℕ) (cs : List ℕ) (r : Unit {0} × Place) → closing_brace (place at cs) ≡ Some r → Took (place at cs) r.1 (125 ∷ [])
 closed_in at [] r found = absurd (none_some r found)
 closed_in at (c ∷ cs) r found = chosen (is_close c) (Some (tt, place (at + len_utf8 c) cs)) None (Some r) found
     (λ close same. subst (λ (z : Unit {0} × Place). Took (place at (c ∷ cs)) z.1 (125 ∷ [])) (same_Some _ _ same) (subst (λ x. Took (place at (c ∷ cs)) (place (at + len_utf8 c) cs) (x ∷ [])) (close_is c close) (took_one at c cs)))

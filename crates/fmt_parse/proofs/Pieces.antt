@@ -11,24 +11,24 @@ use Rattle.text_cut.specs.Reading.{Spelled, texts, items, ReadsPieces, StepsBy}
 use Rattle.text_cut.proofs.Lists.{items_more}
 use Rattle.text_cut.proofs.Runs.{front_is}
 use Rattle.text_cut.proofs.Rules.{took_one, took_both, past_is, past_run}
-use Rattle.text_cut.proofs.Options.{chosen, mapped, none_some}
+use Rattle.text_cut.proofs.OptionLaws.{chosen, mapped, none_some}
 use Rattle.fmt_parse.specs.declared.piece.Piece.{Piece}
 use Rattle.fmt_parse.specs.declared.piece.Piece.TheVariants.{Lit, NextArgument}
 use Rattle.fmt_parse.specs.Tokens.{range, is_open, is_close}
-use Rattle.fmt_parse.specs.Pieces.{takes, taken, Inner, IsInner, placeholder, IsPlaceholder, is_plain, IsRun, IsDoubled, IsAnyPiece, IsPiece}
+use Rattle.fmt_parse.specs.Pieces.{takes, taken, Inner, IsInner, placeholder, IsPlaceholder, is_plain, IsPlainText, IsDoubled, IsAnyPiece, IsPiece}
 use Rattle.fmt_parse.specs.ReadTokens.{between}
-use Rattle.fmt_parse.specs.ReadPieces.{inner_at, made, placeholder_at, doubled_at, run_at, piece_at}
+use Rattle.fmt_parse.specs.ReadPieces.{inner_at, made, placeholder_at, doubled_at, plain_text_at, piece_at}
 use Rattle.fmt_parse.proofs.Tokens.{starts_front, starts_run}
 use Rattle.fmt_parse.proofs.Flags.{range_is}
 use Rattle.fmt_parse.proofs.Parts.{inner_reads}
 
 abbrev piece_by : ℕ → Place → Bool → Bool → Bool → Bool → Option (Piece × Place)
-piece_by number p plain opens again closes = cond plain (Some (run_at p)) (cond opens (cond again (doubled_at p) (placeholder_at number p)) (cond closes (doubled_at p) None))
+piece_by number p plain opens again closes = cond plain (Some (plain_text_at p)) (cond opens (cond again (doubled_at p) (placeholder_at number p)) (cond closes (doubled_at p) None))
 
 module _ (number : ℕ) where
-  run_found : (at : ℕ) (text : List ℕ) (v : Piece) (rest : List ℕ) → IsRun at text v rest → piece_at number (place at (text ++ rest)) ≡ Some (v, place (at + size text) rest)
+  plain_text_found : (at : ℕ) (text : List ℕ) (v : Piece) (rest : List ℕ) → IsPlainText at text v rest → piece_at number (place at (text ++ rest)) ≡ Some (v, place (at + size text) rest)
   unfolding piece_at
-  run_found at text v rest h =
+  plain_text_found at text v rest h =
       ap (λ b. piece_by number (place at (text ++ rest)) b (starts is_open (text ++ rest)) (starts is_open (tail (text ++ rest))) (starts is_close (tail (text ++ rest)))) (starts_front is_plain text rest h.some)
       ∙ (ap (λ e. Some (Lit (between (place at (text ++ rest)) e), e)) (past_run is_plain text rest at h.longest)
       ∙ ap (λ w. Some (w, place (at + size text) rest)) (sym h.value))
@@ -62,7 +62,7 @@ module _ (number : ℕ) where
       (placeholder_here at h.inner rest h.parts h.single h.is ∙ ap (λ w. Some (w, place (at + size (123 ∷ h.inner)) rest)) (sym value))
 
   piece_found : (at : ℕ) (text : List ℕ) (v : Piece) (rest : List ℕ) → IsAnyPiece number at text v rest → piece_at number (place at (text ++ rest)) ≡ Some (v, place (at + size text) rest)
-  piece_found at text v rest (inl h) = run_found at text v rest h
+  piece_found at text v rest (inl h) = plain_text_found at text v rest h
   piece_found at text v rest (inr (inl h)) = doubled_by 123 at text v rest (doubled_open at rest) h
   piece_found at text v rest (inr (inr (inl h))) = doubled_by 125 at text v rest (doubled_close at rest) h
   piece_found at text v rest (inr (inr (inr h))) = placeholder_found at text v rest h
@@ -70,8 +70,8 @@ module _ (number : ℕ) where
   abbrev Spelt : Place → Piece × Place → Type 0
   Spelt p r = Spells (IsAnyPiece number) p r
 
-  run_is : (p : Place) → starts is_plain p.left ≡ true → Spelt p (run_at p)
-  run_is p plain = record {
+  plain_text_is : (p : Place) → starts is_plain p.left ≡ true → Spelt p (plain_text_at p)
+  plain_text_is p plain = record {
     text = front is_plain p.left;
     took = past_is is_plain p;
     rule = inl (record {
@@ -131,13 +131,13 @@ module _ (number : ℕ) where
   piece_in : (at : ℕ) (cs : List ℕ) (r : Piece × Place) → piece_at number (place at cs) ≡ Some r → Spelt (place at cs) r
   unfolding piece_at doubled_at
   piece_in at [] r found = absurd (none_some r found)
-  piece_in at (c ∷ []) r found = chosen (is_plain c) (Some (run_at (place at (c ∷ [])))) (cond (is_open c) (placeholder_at number (place at (c ∷ []))) None) (Some r) found
-      (λ plain same. subst (λ z. Spelt (place at (c ∷ [])) z) (same_Some _ _ same) (run_is (place at (c ∷ [])) plain))
+  piece_in at (c ∷ []) r found = chosen (is_plain c) (Some (plain_text_at (place at (c ∷ [])))) (cond (is_open c) (placeholder_at number (place at (c ∷ []))) None) (Some r) found
+      (λ plain same. subst (λ z. Spelt (place at (c ∷ [])) z) (same_Some _ _ same) (plain_text_is (place at (c ∷ [])) plain))
       (λ no_plain found. chosen (is_open c) (placeholder_at number (place at (c ∷ []))) None (Some r) found
       (λ opens found. placeholder_is at c [] r (open_is c opens) refl found)
       (λ other none. absurd (none_some r none)))
-  piece_in at (c ∷ d ∷ cs) r found = chosen (is_plain c) (Some (run_at (place at (c ∷ d ∷ cs)))) (cond (is_open c) (cond (is_open d) (doubled_at (place at (c ∷ d ∷ cs))) (placeholder_at number (place at (c ∷ d ∷ cs)))) (cond (is_close d) (doubled_at (place at (c ∷ d ∷ cs))) None)) (Some r) found
-      (λ plain same. subst (λ z. Spelt (place at (c ∷ d ∷ cs)) z) (same_Some _ _ same) (run_is (place at (c ∷ d ∷ cs)) plain))
+  piece_in at (c ∷ d ∷ cs) r found = chosen (is_plain c) (Some (plain_text_at (place at (c ∷ d ∷ cs)))) (cond (is_open c) (cond (is_open d) (doubled_at (place at (c ∷ d ∷ cs))) (placeholder_at number (place at (c ∷ d ∷ cs)))) (cond (is_close d) (doubled_at (place at (c ∷ d ∷ cs))) None)) (Some r) found
+      (λ plain same. subst (λ z. Spelt (place at (c ∷ d ∷ cs)) z) (same_Some _ _ same) (plain_text_is (place at (c ∷ d ∷ cs)) plain))
       (λ no_plain found. chosen (is_open c) (cond (is_open d) (doubled_at (place at (c ∷ d ∷ cs))) (placeholder_at number (place at (c ∷ d ∷ cs)))) (cond (is_close d) (doubled_at (place at (c ∷ d ∷ cs))) None) (Some r) found
       (λ opens found. chosen (is_open d) (doubled_at (place at (c ∷ d ∷ cs))) (placeholder_at number (place at (c ∷ d ∷ cs))) (Some r) found
       (λ again same. subst (λ z. Spelt (place at (c ∷ d ∷ cs)) z) (same_Some _ _ same) (twice at 123 c d cs (open_is c opens) (open_is d again) (λ text v h. inr (inl h))))

@@ -1,12 +1,13 @@
 -- What a loop keeps that reads a format text piece by piece.
-use Rattle.std.proofs.Common.{◌≡◌, ◌≤◌, ◌<◌, ◌+◌, ℕ, List, [], ◌∷◌, ◌++◌, Some, ap, ◌∙◌, sym, subst, arith}
-use Rattle.std.proofs.Common.{inl, inr}
+use Rattle.std.proofs.Common.{◌≡◌, ◌≤◌, ◌<◌, ◌+◌, inl, inr, ℕ, List, [], ◌∷◌, ◌++◌, Some, ap, ◌∙◌, sym, subst, arith}
+use Rattle.std.specs.List.{All}
+use Rattle.std.proofs.lemmas.List.Elements.{All-push}
 use Rattle.text_cut.specs.Runs.{size}
 use Rattle.text_cut.specs.Place.{Place, place}
 use Rattle.text_cut.specs.Rules.{Spells}
-use Rattle.text_cut.specs.Reading.{items, texts, SoFar, IsStuck, FaultAt}
+use Rattle.text_cut.specs.Reading.{items, texts, IsRead, SoFar, IsStuck, FaultAt}
 use Rattle.text_cut.proofs.Sizes.{size_append}
-use Rattle.text_cut.proofs.SoFar.{so_far_more, so_far_stops, so_far_smaller}
+use Rattle.text_cut.proofs.SoFar.{so_far_more, so_far_ends, so_far_stops, so_far_smaller}
 use Rattle.fmt_parse.specs.declared.piece.Count.{Count}
 use Rattle.fmt_parse.specs.declared.piece.Count.TheVariants as count
 use Rattle.fmt_parse.specs.declared.piece.Position.{Position}
@@ -15,14 +16,18 @@ use Rattle.fmt_parse.specs.declared.piece.Piece.{Piece}
 use Rattle.fmt_parse.specs.declared.piece.Piece.TheVariants.{Lit, NextArgument}
 use Rattle.fmt_parse.specs.Pieces.{stars, implicit, takes, taken, IsAnyPiece, IsPiece, IsInner}
 use Rattle.fmt_parse.specs.ReadPieces.{piece_at}
-use Rattle.fmt_parse.specs.Format.{HasPlainWidth, HavePlainWidths}
+use Rattle.fmt_parse.specs.Format.{HasPlainWidth}
 use Rattle.fmt_parse.proofs.Pieces.{pieces_read, steps}
 
 -- these pieces were read up to this place, and this is the number of the next argument; no more were taken than bytes were passed
 pub record PiecesSoFar (text : List ℕ) (pieces : List Piece) (number : ℕ) (here : Place) : Type 0 where
   pub so_far : SoFar IsPiece (λ front. taken (items front)) text pieces number here
   pub few : number ≤ here.at
-  pub widths : HavePlainWidths pieces
+  pub widths : All HasPlainWidth pieces
+
+-- nothing is left
+pub pieces_end : (text : List ℕ) (pieces : List Piece) (number : ℕ) (here : Place) → PiecesSoFar text pieces number here → here.left ≡ [] → IsRead IsPiece text pieces
+pieces_end text pieces number here is none = so_far_ends IsPiece (λ front. taken (items front)) text pieces number here is.so_far none
 
 -- a count takes at most one argument, and so does a position
 one_star : (c : Count) → stars c ≤ 1
@@ -65,11 +70,6 @@ few_taken number at text piece rest (inr (inr (inl doubled))) = omega (arith, ap
 few_taken number at text piece rest (inr (inr (inr placed))) =
     omega (arith, two_at_most piece, ap size placed.whole, some_byte number (at + 1) placed.inner placed.parts rest placed.is)
 
--- the widths of one more piece
-widths_more : (pieces : List Piece) (piece : Piece) → HavePlainWidths pieces → HasPlainWidth piece → HavePlainWidths (pieces ++ piece ∷ [])
-widths_more [] piece are is = (is, tt)
-widths_more (p ∷ pieces) piece are is = (are.0, widths_more pieces piece are.1 is)
-
 -- the piece found behind pieces, by the rule
 found_piece : (text : List ℕ) (pieces : List Piece) (number : ℕ) (here : Place) (piece : Piece) (e : Place) → (sofar : SoFar IsPiece (λ front. taken (items front)) text pieces number here) → piece_at number here ≡ Some (piece, e) → Spells (λ at. IsPiece sofar.front) (place (size (texts sofar.front)) here.left) (piece, e)
 found_piece text pieces number here piece e sofar found =
@@ -84,7 +84,7 @@ one_further text pieces number here piece e is found width =
     record {
       so_far = so_far_more IsPiece (λ front. taken (items front)) piece_at (λ n p. n + takes p) pieces_read steps text pieces number here piece e is.so_far found;
       few = omega (arith, few, is.few, is.so_far.at, spelled.took.ends);
-      widths = widths_more pieces piece is.widths width;
+      widths = All-push HasPlainWidth pieces piece is.widths width;
     }
 
 pub pieces_more : (text : List ℕ) (pieces more : List Piece) (number next : ℕ) (here : Place) (piece : Piece) (e : Place) → PiecesSoFar text pieces number here → Some (piece, e) ≡ piece_at number here → HasPlainWidth piece → more ≡ pieces ++ piece ∷ [] → next ≡ takes piece → PiecesSoFar text more (number + next) e

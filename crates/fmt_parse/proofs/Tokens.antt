@@ -9,7 +9,7 @@ use Rattle.text_cut.specs.Place.{Place, place, past, Took}
 use Rattle.text_cut.specs.Rules.{Spells, Reads}
 use Rattle.text_cut.proofs.Runs.{front_of, front_is}
 use Rattle.text_cut.proofs.Rules.{took_one, took_both, past_is, past_run}
-use Rattle.text_cut.proofs.Options.{chosen, none_some}
+use Rattle.text_cut.proofs.OptionLaws.{chosen, none_some}
 use Rattle.fmt_parse.specs.Tokens.{number_from, IsInt, starts_name, IsName}
 use Rattle.fmt_parse.specs.ReadTokens.{if_small, int_at, past_name, name_at}
 

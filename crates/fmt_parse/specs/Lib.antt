@@ -1,8 +1,9 @@
 pub mod Tokens
-pub mod Options
+pub mod Spec
 pub mod Pieces
 pub mod ReadTokens
-pub mod ReadOptions
+pub mod ReadSpec
 pub mod ReadPieces
+pub mod Ranges
 pub mod Format
 pub mod Laws

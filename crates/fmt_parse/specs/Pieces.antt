@@ -14,7 +14,7 @@ use Rattle.fmt_parse.specs.declared.piece.Argument.{Argument}
 use Rattle.fmt_parse.specs.declared.piece.Piece.{Piece}
 use Rattle.fmt_parse.specs.declared.piece.Piece.TheVariants.{Lit, NextArgument}
 use Rattle.fmt_parse.specs.Tokens.{range, IsInt, IsName, starts_name, is_open, is_close}
-use Rattle.fmt_parse.specs.Options.{Parts, spec_of, IsFormat}
+use Rattle.fmt_parse.specs.Spec.{SpecParts, spec_of, IsFormat}
 
 -- how many arguments a piece takes from those that have no number: one for `*`, and one for a placeholder that names none
 abbrev pub stars : Count → ℕ
@@ -73,7 +73,7 @@ pub record IsEnd (at : ℕ) (text : List ℕ) (v : Unit {0}) (rest : List ℕ) :
 
 -- what stands behind the opening brace of a placeholder
 abbrev pub Inner : Type 0
-Inner = Written × (Parts × Unit {0})
+Inner = Written × (SpecParts × Unit {0})
 
 abbrev pub IsInner : ℕ → ℕ → List ℕ → Inner → List ℕ → Type 0
 IsInner number = Both IsArg (Both (IsFormat number) IsEnd)
@@ -100,7 +100,7 @@ abbrev pub is_plain : ℕ → Bool
 is_plain c = not (is_open c || is_close c)
 
 -- a literal: such characters, as many as follow
-pub record IsRun (at : ℕ) (text : List ℕ) (piece : Piece) (rest : List ℕ) : Type 0 where
+pub record IsPlainText (at : ℕ) (text : List ℕ) (piece : Piece) (rest : List ℕ) : Type 0 where
   pub some : starts is_plain text ≡ true
   pub longest : IsLongest is_plain text rest
   pub value : piece ≡ Lit (range at text)
@@ -111,7 +111,7 @@ pub record IsDoubled (brace at : ℕ) (text : List ℕ) (piece : Piece) : Type 0
   pub value : piece ≡ Lit (range at (brace ∷ []))
 
 abbrev pub IsAnyPiece : ℕ → ℕ → List ℕ → Piece → List ℕ → Type 0
-IsAnyPiece number at text piece rest = IsRun at text piece rest ⊎ (IsDoubled 123 at text piece ⊎ (IsDoubled 125 at text piece ⊎ IsPlaceholder number at text piece rest))
+IsAnyPiece number at text piece rest = IsPlainText at text piece rest ⊎ (IsDoubled 123 at text piece ⊎ (IsDoubled 125 at text piece ⊎ IsPlaceholder number at text piece rest))
 
 -- the spellings of a piece behind these
 abbrev pub IsPiece : List (Spelled Piece) → List ℕ → Piece → List ℕ → Type 0

@@ -10,7 +10,7 @@ use Rattle.fmt_parse.specs.declared.piece.Piece.{Piece}
 use Rattle.fmt_parse.specs.declared.piece.Piece.TheVariants.{Lit, NextArgument}
 use Rattle.fmt_parse.specs.Tokens.{starts_name, is_open, is_close}
 use Rattle.fmt_parse.specs.ReadTokens.{between, int_at, name_at}
-use Rattle.fmt_parse.specs.ReadOptions.{format_at}
+use Rattle.fmt_parse.specs.ReadSpec.{format_at}
 use Rattle.fmt_parse.specs.Pieces.{Written, Inner, placeholder, is_plain}
 
 -- the number of an argument that stands here
@@ -26,12 +26,12 @@ unfoldable pub arg_at : Place → Option (Written × Place)
 arg_at p = if starts is_ascii_digit p.left then number_arg_at p else (if starts_name p.left then name_arg_at p else Some ((None, between p p), p))
 
 -- the closing brace that stands here
-abbrev pub closed : Place → Option (Unit {0} × Place)
-closed e = if starts is_close e.left then option_map (λ (r : ℕ × Place). (tt, r.1)) (first e) else None
+abbrev pub closing_brace : Place → Option (Unit {0} × Place)
+closing_brace e = if starts is_close e.left then option_map (λ (r : ℕ × Place). (tt, r.1)) (first e) else None
 
 -- the white space and the closing brace that stand here
 unfoldable pub end_at : Place → Option (Unit {0} × Place)
-end_at p = closed (past is_whitespace p)
+end_at p = closing_brace (past is_whitespace p)
 
 -- what stands behind an opening brace
 abbrev pub inner_at : ℕ → Place → Option (Inner × Place)
@@ -55,8 +55,8 @@ unfoldable pub doubled_at : Place → Option (Piece × Place)
 doubled_at p = option_and_then (second_brace p) (first p)
 
 -- the characters other than braces that stand here
-abbrev pub run_at : Place → Piece × Place
-run_at p = (Lit (between p (past is_plain p)), past is_plain p)
+abbrev pub plain_text_at : Place → Piece × Place
+plain_text_at p = (Lit (between p (past is_plain p)), past is_plain p)
 
 -- what is behind the first of the characters
 abbrev pub tail_starts : (ℕ → Bool) → Place → Bool
@@ -64,6 +64,6 @@ tail_starts test p = starts test (tail p.left)
 
 -- the piece that stands here, where the next argument has this number
 unfoldable pub piece_at : ℕ → Place → Option (Piece × Place)
-piece_at number p = if starts is_plain p.left then Some (run_at p)
+piece_at number p = if starts is_plain p.left then Some (plain_text_at p)
     else (if starts is_open p.left then (if tail_starts is_open p then doubled_at p else placeholder_at number p)
     else (if tail_starts is_close p then doubled_at p else None))

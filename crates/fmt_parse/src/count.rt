@@ -1,8 +1,8 @@
 ghost use Rattle.std.specs.Prelude.{◌≡◌, IfSome, option_map};
 ghost use Rattle.text_cut.specs.Seen.{seen};
-ghost use Rattle.fmt_parse.specs.Options.{starts_dollar_name};
+ghost use Rattle.fmt_parse.specs.Spec.{starts_dollar_name};
 ghost use Rattle.fmt_parse.specs.Pieces.{stars};
-ghost use Rattle.fmt_parse.specs.ReadOptions.{number_count_at, name_count_at, count_at, precise_at, precision_at};
+ghost use Rattle.fmt_parse.specs.ReadSpec.{number_count_at, name_count_at, count_at, precise_at, precision_at};
 
 use crate::piece::Count;
 use crate::token::{int, name, name_end, range, starts_digit, starts_name};
@@ -10,7 +10,7 @@ use sym_core::TextRange;
 use text_cut::{Cursor, next, starts_with};
 
 // The count that a number is here, with a `$` behind it or without one; none where no number stands.
-#[tactic(auto, unfolding(crate::specs::ReadOptions::number_count_at))]
+#[tactic(auto, unfolding(crate::specs::ReadSpec::number_count_at))]
 fn number_count(here: Cursor<'_>) -> Option<(Count, Option<TextRange>, Cursor<'_>)>
     ensures value { option_map (λ r. ((r.0, r.1), seen r.2)) result ≡ number_count_at (seen here.entry) }
     ensures width { IfSome result (λ r. stars r.0 ≡ 0) }
@@ -38,7 +38,7 @@ fn starts_dollar_name(here: Cursor<'_>) -> bool
 }
 
 // The count that a name is here, and the place behind the character that follows it; none where no name stands.
-#[tactic(auto, unfolding(crate::specs::ReadOptions::name_count_at))]
+#[tactic(auto, unfolding(crate::specs::ReadSpec::name_count_at))]
 fn name_count(here: Cursor<'_>) -> Option<(Count, Option<TextRange>, Cursor<'_>)>
     ensures value { option_map (λ r. ((r.0, r.1), seen r.2)) result ≡ name_count_at (seen here.entry) }
     ensures width { IfSome result (λ r. stars r.0 ≡ 0) }
@@ -50,7 +50,7 @@ fn name_count(here: Cursor<'_>) -> Option<(Count, Option<TextRange>, Cursor<'_>)
 }
 
 /// The count that stands here, its text's range, and the place behind it; none where a number is too great.
-#[tactic(auto, unfolding(crate::specs::ReadOptions::count_at))]
+#[tactic(auto, unfolding(crate::specs::ReadSpec::count_at))]
 pub(crate) fn count(here: Cursor<'_>) -> Option<(Count, Option<TextRange>, Cursor<'_>)>
     ensures value { option_map (λ r. ((r.0, r.1), seen r.2)) result ≡ count_at (seen here.entry) }
     ensures width { IfSome result (λ r. stars r.0 ≡ 0) }
@@ -65,7 +65,7 @@ pub(crate) fn count(here: Cursor<'_>) -> Option<(Count, Option<TextRange>, Curso
 }
 
 // What stands behind the dot of a precision: a `*`, which takes the argument of this number, or a count that is one.
-#[tactic(auto, unfolding(crate::specs::ReadOptions::precise_at))]
+#[tactic(auto, unfolding(crate::specs::ReadSpec::precise_at))]
 fn precise(here: Cursor<'_>, number: usize) -> Option<(Count, Option<TextRange>, Cursor<'_>)>
     ensures { option_map (λ r. ((r.0, r.1), seen r.2)) result ≡ precise_at number (seen here.entry) }
 {
@@ -83,7 +83,7 @@ fn precise(here: Cursor<'_>, number: usize) -> Option<(Count, Option<TextRange>,
 /// The precision that stands here, its text's range, and the place behind it; none where a dot has none behind it.
 ///
 /// The next argument has this number.
-#[tactic(auto, unfolding(crate::specs::ReadOptions::precision_at))]
+#[tactic(auto, unfolding(crate::specs::ReadSpec::precision_at))]
 pub(crate) fn precision(
     here: Cursor<'_>,
     number: usize,

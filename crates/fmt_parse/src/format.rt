@@ -1,16 +1,18 @@
 ghost use Rattle.std.specs.Prelude.{◌≡◌, ◌≤◌, ◌==◌, ◌++◌, ◌∷◌, [], length, IfOk, IfErr, IfSome, option_map};
+ghost use Rattle.std.specs.List.{All};
 ghost use Rattle.text_cut.specs.Runs.{starts, tail};
 ghost use Rattle.text_cut.specs.Place.{past};
 ghost use Rattle.text_cut.specs.Seen.{seen};
 ghost use Rattle.fmt_parse.specs.Pieces.{takes, implicit, is_plain, ArePieces};
-ghost use Rattle.fmt_parse.specs.ReadPieces.{run_at, doubled_at, piece_at};
-ghost use Rattle.fmt_parse.specs.Format.{HasPlainWidth, HavePlainWidths, IsFault};
+ghost use Rattle.fmt_parse.specs.ReadPieces.{plain_text_at, doubled_at, piece_at};
+ghost use Rattle.fmt_parse.specs.Format.{HasPlainWidth, IsFault};
+ghost use Rattle.fmt_parse.specs.Ranges.{RangesWithin};
 
 use crate::piece::{Piece, Position};
 use crate::placeholder::{placeholder, stars};
 use crate::token::range;
 use std::alloc::{AllocError, Global};
-use text_cut::{Cursor, begin, begins_with, is_at_end, next, run, starts_with};
+use text_cut::{Cursor, begin, begins_with, eat_while, is_at_end, next, starts_with};
 use thiserror::Error;
 
 /// Why a format text was not read.
@@ -49,12 +51,12 @@ fn starts_plain(here: Cursor<'_>) -> bool
 fn plain_end(here: Cursor<'_>) -> Cursor<'_>
     ensures { seen result ≡ past is_plain (seen here.entry) }
 {
-    run(here, |c| c != '{' && c != '}')
+    eat_while(here, |c| c != '{' && c != '}')
 }
 
 // The literal of the characters here that stand for themselves, and the place behind it.
 fn literal(here: Cursor<'_>) -> (Piece, Cursor<'_>)
-    ensures value { (result.0, seen result.1) ≡ run_at (seen here.entry) }
+    ensures value { (result.0, seen result.1) ≡ plain_text_at (seen here.entry) }
     ensures width { HasPlainWidth result.0 }
 {
     let end = plain_end(here);
@@ -136,13 +138,27 @@ fn add(pieces: &mut Vec<Piece>, piece: Piece) -> Result<(), AllocError>
 
 /// Reads a format text of at most 4,294,967,295 bytes: it is exactly the pieces that are returned.
 ///
-/// A text that is no format text is refused, with the offset at which the furthest pieces from its front end.
-/// No memory is left where [`FormatError::Memory`] is returned, and that says nothing of the text.
+/// Every range of a piece is a part of the text, in bytes: from where a spelling begins up to where it ends.
+///
+/// ```
+/// let pieces = parse_format(alloc, "é{x:>5}")?;
+/// let [Piece::Lit(letter), Piece::NextArgument(argument)] = pieces.as_slice() else { panic!() };
+/// assert_eq!(*letter, TextRange { start: 0, end: 2 });
+/// assert_eq!(argument.position, Position::Named(TextRange { start: 3, end: 4 }));
+/// assert_eq!(argument.format.width, Count::Is(5));
+/// assert_eq!(parse_format(alloc, "a}"), Err(FormatError::Syntax { at: 1 }));
+/// ```
+///
+/// # Errors
+///
+/// [`FormatError::Syntax`] exactly where the text is no format text, with the offset at which the furthest pieces from its
+/// front end; [`FormatError::Memory`] where no memory is left, which says nothing of the text.
 pub fn parse_format(alloc: Global, text: &str) -> Result<Vec<Piece>, FormatError>
     requires { length text.now ≤ 4_294_967_295 }
     ensures read { IfOk result (λ pieces. ArePieces text.now pieces.items) }
     ensures fault { IfErr result (IsFault text.now) }
-    ensures widths { IfOk result (λ pieces. HavePlainWidths pieces.items) }
+    ensures widths { IfOk result (λ pieces. All HasPlainWidth pieces.items) }
+    ensures ranges { IfOk result (λ pieces. All (RangesWithin text.now) pieces.items) }
 {
     let mut pieces = Vec::new(alloc);
     let mut number = 0;
@@ -173,6 +189,19 @@ mod tests {
             return Err(FormatError::Syntax { at: 0 });
         }
         parse_format(alloc, text)
+    }
+
+    #[test]
+    fn reads_a_text(rt: HostRuntime) -> Result<(), Fail> {
+        let pieces = parse_format(rt.alloc(), "é{x:>5}")?;
+        let [Piece::Lit(letter), Piece::NextArgument(argument)] = pieces.as_slice() else {
+            panic!(rt; "a literal and a placeholder");
+        };
+        assert_eq!(rt; *letter, at(0, 2), "the literal");
+        assert_eq!(rt; argument.position, Position::Named(at(3, 4)), "the name");
+        assert_eq!(rt; argument.format.width, Count::Is(5), "the width");
+        assert_eq!(rt; fault(rt.alloc(), "a}")?, Some(1), "a brace alone");
+        Ok(())
     }
 
     // The placeholder that a text is; none where it is something else.
@@ -370,39 +399,38 @@ mod tests {
         })
     }
 
+    // Whether a text is these pieces.
+    fn is_read_as(alloc: Global, text: &str, want: &[Piece]) -> Result<bool, FormatError> {
+        let pieces = read(alloc, text)?;
+        Ok(pieces.as_slice() == want)
+    }
+
+    // The piece of a text at this index.
+    fn piece_at(alloc: Global, text: &str, index: usize) -> Result<Option<Piece>, FormatError> {
+        let pieces = read(alloc, text)?;
+        Ok(pieces.as_slice().get(index).copied())
+    }
+
     #[test]
     fn reads_pieces_in_their_order(rt: HostRuntime) -> Result<(), Fail> {
         let alloc = rt.alloc();
-        assert!(rt; read(alloc, "")?.is_empty(), "no pieces");
-        let braces = read(alloc, "{{}}")?;
-        assert_eq!(rt;
-            braces.as_slice(),
-            [lit(0, 1), lit(2, 3)].as_slice(),
-            "doubled braces"
-        );
-        let inside = read(alloc, "é{{b")?;
-        assert_eq!(rt;
-            inside.as_slice(),
-            [lit(0, 2), lit(2, 3), lit(4, 5)].as_slice(),
-            "in a text"
-        );
-        let behind = read(alloc, "a{}")?;
-        assert_eq!(rt;
-            behind.as_slice(),
-            [lit(0, 1), next_of(1, 0)].as_slice(),
-            "behind a text"
-        );
-        let numbered = read(alloc, "{:.*}{}{0}{}")?;
-        assert_eq!(rt;
-            numbered.as_slice().get(1),
-            Some(&next_of(5, 2)),
-            "behind a star"
-        );
-        assert_eq!(rt;
-            numbered.as_slice().get(3),
-            Some(&next_of(10, 3)),
-            "behind a number"
-        );
+        let doubled = [lit(0, 1), lit(2, 3)];
+        let inside = [lit(0, 2), lit(2, 3), lit(4, 5)];
+        let behind = [lit(0, 1), next_of(1, 0)];
+        assert!(rt; is_read_as(alloc, "", &[])?, "no pieces");
+        assert!(rt; is_read_as(alloc, "{{}}", &doubled)?, "doubled braces");
+        assert!(rt; is_read_as(alloc, "é{{b", &inside)?, "in a text");
+        assert!(rt; is_read_as(alloc, "a{}", &behind)?, "behind a text");
+        Ok(())
+    }
+
+    #[test]
+    fn counts_arguments(rt: HostRuntime) -> Result<(), Fail> {
+        let text = "{:.*}{}{0}{}";
+        let behind_star = piece_at(rt.alloc(), text, 1)?;
+        assert_eq!(rt; behind_star, Some(next_of(5, 2)), "behind a star");
+        let behind_number = piece_at(rt.alloc(), text, 3)?;
+        assert_eq!(rt; behind_number, Some(next_of(10, 3)), "behind a number");
         Ok(())
     }
 
@@ -437,25 +465,28 @@ mod tests {
         Ok(whole)
     }
 
+    // How many pieces so many placeholders are, and which argument the last one takes.
+    fn last_of(alloc: Global, times: usize) -> Result<Option<(usize, Position)>, FormatError> {
+        let text = repeated(alloc, "{}", times)?;
+        let pieces = read(alloc, text.as_str())?;
+        match pieces.as_slice().last() {
+            Some(Piece::NextArgument(last)) => Ok(Some((pieces.len(), last.position))),
+            _ => Ok(None),
+        }
+    }
+
     #[test]
     fn reads_large_texts(rt: HostRuntime) -> Result<(), Fail> {
-        let alloc = rt.alloc();
-        let many = repeated(alloc, "{}", 1_000_000)?;
-        let pieces = read(alloc, many.as_str())?;
-        assert_eq!(rt; pieces.len(), 1_000_000, "a million placeholders");
-        let Some(Piece::NextArgument(last)) = pieces.as_slice().last() else {
-            panic!(rt; "the last is a placeholder");
-        };
+        let last = last_of(rt.alloc(), 1_000_000)?;
         assert_eq!(rt;
-            last.position,
-            Position::ImplicitlyIs(999_999),
-            "the last of them"
+            last,
+            Some((1_000_000, Position::ImplicitlyIs(999_999))),
+            "a million placeholders"
         );
-        let long = repeated(alloc, "a", 16_777_216)?;
-        let pieces = read(alloc, long.as_str())?;
-        assert_eq!(rt;
-            pieces.as_slice(),
-            [lit(0, 16_777_216)].as_slice(),
+        let long = repeated(rt.alloc(), "a", 16_777_216)?;
+        let whole = [lit(0, 16_777_216)];
+        assert!(rt;
+            is_read_as(rt.alloc(), long.as_str(), &whole)?,
             "a text without placeholders"
         );
         Ok(())

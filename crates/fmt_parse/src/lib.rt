@@ -11,5 +11,5 @@ mod spec;
 mod token;
 
 pub use format::{FormatError, parse_format};
-pub use laws::one_reading;
+pub use laws::{one_reading, pieces_stand_within};
 pub use piece::{Alignment, Argument, Count, DebugHex, FormatSpec, Piece, Position, Sign};

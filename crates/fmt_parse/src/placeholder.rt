@@ -10,7 +10,7 @@ use crate::piece::{Argument, Count, Piece, Position};
 use crate::spec::format_spec;
 use crate::token::{int, name, range, starts_digit, starts_name};
 use sym_core::TextRange;
-use text_cut::{Cursor, next, run, starts_with};
+use text_cut::{Cursor, eat_while, next, starts_with};
 
 // The argument of the number that stands here.
 #[tactic(auto, unfolding(crate::specs::ReadPieces::number_arg_at))]
@@ -49,7 +49,7 @@ fn argument(here: Cursor<'_>) -> Option<(Option<Position>, TextRange, Cursor<'_>
 fn white_end(here: Cursor<'_>) -> Cursor<'_>
     ensures { seen result ≡ past is_whitespace (seen here.entry) }
 {
-    run(here, |c| c.is_whitespace())
+    eat_while(here, |c| c.is_whitespace())
 }
 
 // The place behind white space and the closing brace; none where none stands there.

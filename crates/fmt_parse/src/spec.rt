@@ -4,9 +4,9 @@ ghost use Rattle.text_cut.specs.Place.{first};
 ghost use Rattle.text_cut.specs.Rules.{one_at};
 ghost use Rattle.text_cut.specs.Seen.{seen};
 ghost use Rattle.fmt_parse.specs.Tokens.{is_align, is_x};
-ghost use Rattle.fmt_parse.specs.Options.{align_of, hex_of, sign_test, sign_of, hash_test, zero_test, flag, spec_of, plain_parts};
+ghost use Rattle.fmt_parse.specs.Spec.{align_of, hex_of, sign_test, sign_of, hash_test, zero_test, flag, spec_of, plain_parts};
 ghost use Rattle.fmt_parse.specs.Pieces.{stars};
-ghost use Rattle.fmt_parse.specs.ReadOptions.{filled_at, align_at, question_at, hex_at, name_type_at, type_at, parts_at, format_at};
+ghost use Rattle.fmt_parse.specs.ReadSpec.{filled_at, align_at, question_at, hex_at, name_type_at, type_at, parts_at, format_at};
 ghost use Rattle.fmt_parse.specs.Format.{parts_of};
 
 use crate::count::{count, precision};
@@ -53,7 +53,7 @@ fn filled(here: Cursor<'_>) -> Option<(Option<char>, Alignment, Cursor<'_>)>
 }
 
 // The fill and the alignment that stand here, and the place behind them.
-#[tactic(auto, unfolding(crate::specs::ReadOptions::align_at))]
+#[tactic(auto, unfolding(crate::specs::ReadSpec::align_at))]
 fn alignment(here: Cursor<'_>) -> Option<(Option<char>, Alignment, Cursor<'_>)>
     ensures { option_map (λ r. ((r.0, r.1), seen r.2)) result ≡ align_at (seen here.entry) }
 {
@@ -129,7 +129,7 @@ fn question(here: Cursor<'_>) -> Option<(Option<DebugHex>, TextRange, Cursor<'_>
 }
 
 // The type that `x` or `X` begins, and the place behind it.
-#[tactic(auto, unfolding(crate::specs::ReadOptions::hex_at))]
+#[tactic(auto, unfolding(crate::specs::ReadSpec::hex_at))]
 fn hex(here: Cursor<'_>) -> Option<(Option<DebugHex>, TextRange, Cursor<'_>)>
     ensures { option_map (λ r. ((r.0, r.1), seen r.2)) result ≡ hex_at (seen here.entry) }
 {
@@ -142,7 +142,7 @@ fn hex(here: Cursor<'_>) -> Option<(Option<DebugHex>, TextRange, Cursor<'_>)>
 }
 
 // The type that a name is here, and the place behind it.
-#[tactic(auto, unfolding(crate::specs::ReadOptions::name_type_at))]
+#[tactic(auto, unfolding(crate::specs::ReadSpec::name_type_at))]
 fn name_type(here: Cursor<'_>) -> Option<(Option<DebugHex>, TextRange, Cursor<'_>)>
     ensures { option_map (λ r. ((r.0, r.1), seen r.2)) result ≡ name_type_at (seen here.entry) }
 {
@@ -151,7 +151,7 @@ fn name_type(here: Cursor<'_>) -> Option<(Option<DebugHex>, TextRange, Cursor<'_
 }
 
 // The type that stands here, or the empty one, and the place behind it.
-#[tactic(auto, unfolding(crate::specs::ReadOptions::type_at))]
+#[tactic(auto, unfolding(crate::specs::ReadSpec::type_at))]
 fn format_type(here: Cursor<'_>) -> Option<(Option<DebugHex>, TextRange, Cursor<'_>)>
     ensures { option_map (λ r. ((r.0, r.1), seen r.2)) result ≡ type_at (seen here.entry) }
 {
@@ -217,7 +217,7 @@ fn plain(here: Cursor<'_>) -> FormatSpec
 /// What a colon and the parts behind it say here, and the place behind them; none where a part cannot be read.
 ///
 /// The next argument has this number.
-#[tactic(auto, unfolding(crate::specs::ReadOptions::format_at))]
+#[tactic(auto, unfolding(crate::specs::ReadSpec::format_at))]
 pub(crate) fn format_spec(here: Cursor<'_>, number: usize) -> Option<(FormatSpec, Cursor<'_>)>
     ensures value { option_map (λ r. (parts_of r.0, seen r.1)) result ≡ format_at number (seen here.entry) }
     ensures width { IfSome result (λ r. stars r.0.width ≡ 0) }

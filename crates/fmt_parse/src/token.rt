@@ -7,7 +7,7 @@ ghost use Rattle.fmt_parse.specs.Tokens.{starts_name};
 ghost use Rattle.fmt_parse.specs.ReadTokens.{between, past_name, int_at, name_at};
 
 use sym_core::TextRange;
-use text_cut::{Cursor, begins_with, next, run};
+use text_cut::{Cursor, begins_with, eat_while, next};
 use unicode_ident::{is_xid_continue, is_xid_start};
 
 /// The range from one place to another.
@@ -80,7 +80,7 @@ pub(crate) fn starts_name(here: Cursor<'_>) -> bool
 pub(crate) fn name_end(here: Cursor<'_>) -> Cursor<'_>
     ensures { seen result ≡ past_name (seen here.entry) }
 {
-    run(here, |c| is_xid_continue(c))
+    eat_while(here, |c| is_xid_continue(c))
 }
 
 /// The place behind the name that stands here; none where none does.

@@ -13,7 +13,7 @@ use Rattle.hir_store.specs.declared.expr.Statement.TheVariants as statement
 use Rattle.hir_store.specs.declared.store.ExpressionStore.{ExpressionStore}
 use Rattle.hir_store.specs.Tree.{Tree, Steps, Ref, Let, is_whole}
 use Rattle.hir_store.specs.Unfolding.{tree_over}
-use Rattle.hir_store.specs.Store.{Grows, Stands, AllStand, IsPlaced}
+use Rattle.hir_store.specs.Store.{Grows, Stands, AllStand, NoDanglingIds}
 use Rattle.hir_store.specs.Makes.{StepsMake, Makes}
 use Rattle.hir_store.proofs.Defined.{defined_still}
 use Rattle.hir_store.proofs.Grown.{grows_self, grows_on, stands_later, names_kept}
@@ -31,11 +31,11 @@ pub builds_none : (store : ExpressionStore) → Builds store store 0 0
 builds_none store = record { grows = grows_self store; placed = λ p. p; defined = λ d. d; exprs = omega arith; pats = omega arith; bindings = omega arith }
 
 -- expressions alone
-pub builds_still : {old new : ExpressionStore} {most : ℕ} → Grows old new → new.pats ≡ old.pats → new.bindings ≡ old.bindings → (IsPlaced old → IsPlaced new) → length new.exprs ≤ length old.exprs + most → Builds old new most 0
+pub builds_still : {old new : ExpressionStore} {most : ℕ} → Grows old new → new.pats ≡ old.pats → new.bindings ≡ old.bindings → (NoDanglingIds old → NoDanglingIds new) → length new.exprs ≤ length old.exprs + most → Builds old new most 0
 builds_still grows pats bindings kept count = record { grows = grows; placed = kept; defined = defined_still pats bindings; exprs = count; pats = omega (arith, ap length pats); bindings = omega (arith, ap length bindings) }
 
 -- an expression whose parts stand
-pub builds_one : (old new : ExpressionStore) (e : Expr) (t : Tree) → Makes old e t → Grows old new → new.pats ≡ old.pats → new.bindings ≡ old.bindings → (IsPlaced old → IsTrue (is_whole (tree_over old e)) → IsPlaced new) →
+pub builds_one : (old new : ExpressionStore) (e : Expr) (t : Tree) → Makes old e t → Grows old new → new.pats ≡ old.pats → new.bindings ≡ old.bindings → (NoDanglingIds old → IsTrue (is_whole (tree_over old e)) → NoDanglingIds new) →
     length new.exprs ≤ length old.exprs + 1 → Builds old new 1 0
 builds_one old new e t makes grows pats bindings kept count = builds_still grows pats bindings (λ p. kept p (whole_of_made old e t makes)) count
 

@@ -5,10 +5,10 @@ use Rattle.std.specs.Str.{chars}
 use Rattle.std.proofs.Common.{sym, ◌∙◌, ap, subst, append_assoc, append-nil, arith}
 use Rattle.std.proofs.lemmas.List.{map-append}
 use Rattle.std.proofs.lemmas.Option.{same_Some}
-use Rattle.text_cut.proofs.Options.{none_some}
+use Rattle.text_cut.proofs.OptionLaws.{none_some}
 use Rattle.code_meaning.specs.Write.{Piece, Byte, writes_of}
 use Rattle.code_meaning.specs.Value.{At, Values, Arguments}
-use Rattle.code_meaning.specs.Template.{Item, ByteItem, SlotItem, decoded}
+use Rattle.code_meaning.specs.Template.{TemplateItem, ByteItem, SlotItem, decoded}
 use Rattle.code_meaning.specs.Meaning.{writes_in, meaning}
 use Rattle.hir_lower.specs.declared.template_text.Part.{Part}
 use Rattle.hir_lower.specs.declared.template_text.Part.TheVariants.{Letter, Hole}
@@ -119,7 +119,7 @@ draft_text draft parts none is =
 
 -- the whole, with placeholders
 pub draft_bytes : (draft : Draft) (written : TemplateBytes) (literal bytes : List ℕ) (count : ℕ) (parts : List Part) → literal ≡ string_bytes draft.literal → Adds draft.template written (map ByteItem literal)
-    → AppendsLiteral draft.template.bytes.items literal written.bytes.items → ((items : List Item) → IsSpelled written items → decoded bytes ≡ Some items) → bytes ≡ written.bytes.items ++ 0 ∷ []
+    → AppendsLiteral draft.template.bytes.items literal written.bytes.items → ((items : List TemplateItem) → IsSpelled written items → decoded bytes ≡ Some items) → bytes ≡ written.bytes.items ++ 0 ∷ []
     → count ≡ count_in draft → 0 < count → IsDraft draft parts → AreBytesOf (pieces_from 0 parts) bytes count
 draft_bytes draft written literal bytes count parts whole adds appends decodes ends same some is = record {
   some = some;

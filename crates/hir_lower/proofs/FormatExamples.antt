@@ -6,7 +6,7 @@ use Rattle.sym_core.specs.declared.name.Name.TheVariants as name
 use Rattle.hir_store.specs.declared.lang_item.LangItem.TheVariants.{FormatArguments, FormatArgument}
 use Rattle.hir_store.specs.declared.lang_item.LangFn.TheVariants.{New, FromStr, NewDisplay, NewLowerHex, FromUsize}
 use Rattle.hir_store.specs.Tree.{Tree, Missing, Leaf, Path, LangPath, Text, Bytes, Ref, Tuple, Field, Array, Call, Block, Empty, More, Tail, Let, Do}
-use Rattle.code_meaning.specs.Write.{Display, LowerHex, Options, NoCount, Is, Of, Piece, Literal, Placeholder}
+use Rattle.code_meaning.specs.Write.{Display, LowerHex, FormattingOptions, NoCount, Is, Of, Piece, Literal, Placeholder}
 use Rattle.code_meaning.specs.Template.{ByteItem, SlotItem}
 use Rattle.hir_lower.specs.FormatCode.{Argument, LeafArgument, NameArgument, Pair, put_pair, count_pair, with_arguments, text_code, AreAmong, pairs_of_piece, items_of_piece}
 
@@ -18,7 +18,7 @@ arguments = Some (LeafArgument 7) ∷ Some (NameArgument (120 ∷ [])) ∷ []
 pairs : List Pair
 pairs = put_pair 1 Display ∷ put_pair 0 Display ∷ count_pair 1 ∷ put_pair 0 LowerHex ∷ []
 
-plain : Options
+plain : FormattingOptions
 plain = record { fill = 32; alignment = None; sign = None; alternate = false; zero_pad = false; debug_hex = None }
 
 -- `Arguments::new(BYTES, &LIST)` in an unsafe block

@@ -12,11 +12,11 @@ use Rattle.hir_store.specs.declared.pat.Binding.{Binding}
 use Rattle.hir_store.specs.declared.store.ExpressionStore.{ExpressionStore}
 use Rattle.hir_store.specs.Unfolding.{name_in}
 use Rattle.hir_store.specs.Sources.{SameMaps}
-use Rattle.hir_store.specs.Store.{Grows, IsPlaced, PlacesBinding, PlacesPat, Defines, definition_of, DefinesItsOwn, EachDefines}
+use Rattle.hir_store.specs.Store.{Grows, NoDanglingIds, PlacesBinding, PlacesPat, Defines, definition_of, DefinesItsOwn, EachDefines}
 use Rattle.hir_store.proofs.Lists.{same_extends, seam_at}
 use Rattle.hir_store.proofs.Maps.{same_at_older}
 use Rattle.hir_store.proofs.Defined.{own_later, defined_longer}
-use Rattle.hir_store.proofs.Placed.{grows_by_binding, name_of_pat, name_of_binding, placed_by_binding, placed_by_pat, placed_by_definition, names_by_definition}
+use Rattle.hir_store.proofs.Placing.{grows_by_binding, name_of_pat, name_of_binding, no_dangling_by_binding, no_dangling_by_pat, no_dangling_by_definition, names_by_definition}
 use Rattle.hir_lower.specs.Building.{Builds}
 
 -- a write at the seam
@@ -38,7 +38,7 @@ one_or_seam (z ∷ xs) x (suc i) y is = next (one_or_seam xs x i y is) where
 pub binding_built : (a b : ExpressionStore) (binding : BindingId) (name : Name) → PlacesBinding a (record { name = name; definition = None }) binding b → SameMaps a b → Builds a b 0 1
 binding_built a b binding name one same = record {
   grows = grows_by_binding a b (record { name = name; definition = None }) binding one same;
-  placed = λ was. placed_by_binding a b (record { name = name; definition = None }) binding one same was tt;
+  placed = λ was. no_dangling_by_binding a b (record { name = name; definition = None }) binding one same was tt;
   defined = defined_longer a b one.pats (record { name = name; definition = None } ∷ [], one.bindings);
   exprs = omega (arith, ap length one.exprs);
   pats = omega (arith, ap length one.pats);
@@ -71,11 +71,11 @@ module _ (a b c d : ExpressionStore) (binding : BindingId) (pat : PatId) (name :
     });
   }
 
-  let_placed : IsPlaced a → IsPlaced d
+  let_placed : NoDanglingIds a → NoDanglingIds d
   let_placed was =
       let bound : number_of binding.raw < length b.bindings = omega (arith, one.place, ap length one.bindings, length-append a.bindings (record { name = name; definition = None } ∷ [])) in
       let there : number_of pat.raw < length c.pats = omega (arith, two.place, ap length two.pats, length-append b.pats (Bind binding ∷ [])) in
-      placed_by_definition c d binding pat three same_three (placed_by_pat b c (Bind binding) pat two same_two (placed_by_binding a b (record { name = name; definition = None }) binding one same_one was tt) bound) there
+      no_dangling_by_definition c d binding pat three same_three (no_dangling_by_pat b c (Bind binding) pat two same_two (no_dangling_by_binding a b (record { name = name; definition = None }) binding one same_one was tt) bound) there
 
   -- the pattern is bound to the name
   pub let_named : name_in d pat ≡ Some name

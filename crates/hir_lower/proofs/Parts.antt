@@ -5,7 +5,7 @@ use Rattle.std.proofs.Common.{sym, ◌∙◌, ap, subst, eq-eqb, append-nil, ari
 use Rattle.std.proofs.lemmas.Bool.Decides.{nat_tests}
 use Rattle.std.proofs.lemmas.List.{map-append}
 use Rattle.std.proofs.lemmas.Option.{same_Some}
-use Rattle.text_cut.proofs.Options.{chosen, none_some}
+use Rattle.text_cut.proofs.OptionLaws.{chosen, none_some}
 use Rattle.text_cut.specs.Reading.{Spelled, texts, items, AreSpelled, IsRead}
 use Rattle.code_meaning.specs.Write.{Piece, Literal, Placeholder, Asked}
 use Rattle.hir_lower.specs.declared.template_text.Part.{Part}

@@ -5,7 +5,7 @@ use Rattle.std.proofs.Common.{ap, subst, ◌∙◌, arith}
 use Rattle.std.proofs.lemmas.Bool.Decides.{nat_tests}
 use Rattle.code_meaning.specs.Write.{Trait, Display, Debug, LowerExp, UpperExp, Octal, Pointer, Binary, LowerHex, UpperHex, Count, NoCount, Is, Of, Piece, Literal, Placeholder, Byte, count_of, writes_of}
 use Rattle.code_meaning.specs.Value.{Use, By, AsCount, At, Made, Arguments, value_at}
-use Rattle.code_meaning.specs.Template.{Item, ByteItem, decoded}
+use Rattle.code_meaning.specs.Template.{TemplateItem, ByteItem, decoded}
 use Rattle.code_meaning.specs.Meaning.{Writes, count_in, writes_in, writes_over, meaning}
 use Rattle.hir_lower.specs.FormatCode.{Pair, values_of, is_same_trait, is_same_use, is_same_pair, is_among, AreAmong, place_among, put_pair, count_pair, pairs_of_count, pairs_of_piece, count_among, items_of_piece, ReadsBack}
 
@@ -63,7 +63,7 @@ module _ (pairs : List Pair) where
   count_read (Is n) are = refl
   count_read (Of place) are = rw (value_at-place pairs (count_pair place) are.0) refl
 
-  bytes_read : (bytes : List ℕ) (items : List Item) (writes : Writes) → writes_in (values_of pairs) items ≡ Some writes → writes_in (values_of pairs) (map ByteItem bytes ++ items) ≡ Some (map Byte bytes ++ writes)
+  bytes_read : (bytes : List ℕ) (items : List TemplateItem) (writes : Writes) → writes_in (values_of pairs) items ≡ Some writes → writes_in (values_of pairs) (map ByteItem bytes ++ items) ≡ Some (map Byte bytes ++ writes)
   bytes_read [] items writes read = read
   bytes_read (b ∷ bytes) items writes read = rw (bytes_read bytes items writes read) refl
 

@@ -11,7 +11,7 @@ use Rattle.hir_store.specs.declared.lang_item.LangItem.TheVariants.{FormatArgume
 use Rattle.hir_store.specs.declared.lang_item.LangFn.TheVariants.{New}
 use Rattle.hir_store.specs.Tree.{Tree, Trees, LangPath, Bytes, Ref, Call, Empty, More}
 use Rattle.hir_store.specs.Unfolding.{name_in}
-use Rattle.hir_store.specs.Store.{Grows, Stands, IsPlaced, EachDefines}
+use Rattle.hir_store.specs.Store.{Grows, Stands, NoDanglingIds, EachDefines}
 use Rattle.code_meaning.specs.Write.{Display}
 use Rattle.syn_trees.specs.declared.format_call.FormatArgSyntax.{FormatArgSyntax}
 use Rattle.syn_trees.specs.declared.format_call.LeafSyntax.{LeafSyntax}
@@ -20,7 +20,7 @@ use Rattle.hir_lower.specs.FormatCode.{Argument, LeafArgument, argument_tree, Pa
 -- the store grew by at most this many expressions, and by at most this many patterns and bindings; it still names only what is in it, and each pattern still defines what it binds
 pub record Builds (old new : ExpressionStore) (most lets : ℕ) : Type 0 where
   pub grows : Grows old new
-  pub placed : IsPlaced old → IsPlaced new
+  pub placed : NoDanglingIds old → NoDanglingIds new
   pub defined : EachDefines old → EachDefines new
   pub exprs : length new.exprs ≤ length old.exprs + most
   pub pats : length new.pats ≤ length old.pats + lets

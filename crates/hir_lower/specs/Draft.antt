@@ -1,6 +1,6 @@
 -- A draft is a template while its text is read: template bytes up to the last placeholder, and the literal behind it.
 use Rattle.std.specs.Prelude.{◌≡◌, ℕ, List, [], ◌++◌, map, option_map, string_bytes}
-use Rattle.code_meaning.specs.Template.{Item, ByteItem}
+use Rattle.code_meaning.specs.Template.{TemplateItem, ByteItem}
 use Rattle.hir_lower.specs.declared.template_text.Part.{Part}
 use Rattle.hir_lower.specs.declared.template_text.Draft.{Draft}
 use Rattle.hir_lower.specs.Parts.{parts_of, pieces_from, items_from, holes}
@@ -13,7 +13,7 @@ count_in draft = draft.template.next
 
 -- a draft is that of these parts
 pub record IsDraft (draft : Draft) (parts : List Part) : Type 0 where
-  pub items : List Item
+  pub items : List TemplateItem
   pub spelled : IsSpelled draft.template items
   pub are : items_from 0 parts ≡ items ++ map ByteItem (string_bytes draft.literal)
   pub count : count_in draft ≡ holes parts

@@ -10,7 +10,7 @@ use Rattle.code_meaning.specs.Write.{Trait, Display, Debug, LowerExp, UpperExp, 
 use Rattle.code_meaning.specs.Value.{Event, LeafEvent, NameEvent, Use, By, AsCount, Values, At, Made, Arguments, FromText}
 use Rattle.code_meaning.specs.Value as value
 use Rattle.code_meaning.specs.Evaluation.{evaluation_of}
-use Rattle.code_meaning.specs.Template.{Item, ByteItem, SlotItem, decoded}
+use Rattle.code_meaning.specs.Template.{TemplateItem, ByteItem, SlotItem, decoded}
 use Rattle.code_meaning.specs.Meaning.{writes_in}
 use Rattle.hir_lower.specs.Code.{from_str_code}
 
@@ -157,7 +157,7 @@ count_among pairs (Is n) = Is n
 count_among pairs (Of place) = Of (place_among pairs (count_pair place))
 
 -- what template bytes decode to for a piece: the bytes of a character, or one slot with the places of pairs
-abbrev pub items_of_piece : List Pair → Piece → List Item
+abbrev pub items_of_piece : List Pair → Piece → List TemplateItem
 items_of_piece pairs (Literal c) = map ByteItem (encode_utf8 c)
 items_of_piece pairs (Placeholder place asked) = SlotItem (record {
   place = place_among pairs (put_pair place asked.by);
@@ -187,4 +187,4 @@ ReadsBack = (pairs : List Pair) (pieces : List Piece) → AreAmong pairs (flat_m
 
 -- template bytes decode to at most one list
 abbrev pub DecodesOnce : Type 0
-DecodesOnce = (bytes : List ℕ) (items others : List Item) → decoded bytes ≡ Some items → decoded bytes ≡ Some others → items ≡ others
+DecodesOnce = (bytes : List ℕ) (items others : List TemplateItem) → decoded bytes ≡ Some items → decoded bytes ≡ Some others → items ≡ others

@@ -1,4 +1,4 @@
--- What the outcomes of calls are: each call is off exactly where one of its predicates reads false; else it has code. The evaluation of
+-- What the outcomes of calls are: each call is off exactly where one of its predicates evaluates to false; else it has code. The evaluation of
 -- the code of a well formed call runs through, and its value means the writes of the call's text.
 use Rattle.std.specs.Prelude.{◌≡◌, ℕ, ◌+◌, ◌*◌, ◌<◌, ◌≤◌, true, false, cond, suc, List, [], ◌∷◌, length, drop, map, Option, Some, None, IsSome, option_and_then}
 use Rattle.std.specs.List.{AllByRecursion}
@@ -10,7 +10,7 @@ use Rattle.code_meaning.specs.Write.{Piece, writes_of}
 use Rattle.code_meaning.specs.Value.{Event, LeafEvent, Value, At}
 use Rattle.code_meaning.specs.Evaluation.{evaluation_of}
 use Rattle.code_meaning.specs.Meaning.{Writes, meaning}
-use Rattle.ra_cfg.specs.Options.{Options}
+use Rattle.ra_cfg.specs.Options.{OptionSet}
 use Rattle.ra_cfg.specs.Reading.{is_off}
 use Rattle.syn_trees.specs.declared.format_call.Template.{Template}
 use Rattle.syn_trees.specs.declared.format_call.Template.TheVariants.{Str, Macro, Other}
@@ -27,6 +27,7 @@ use Rattle.hir_lower.specs.declared.call.Outcome.TheVariants.{Off, Code}
 use Rattle.hir_lower.specs.declared.template_text.Part.{Part}
 use Rattle.hir_lower.specs.Pieces.{HasPieces, placeholders}
 use Rattle.hir_lower.specs.Parts.{parts_of, holes}
+use Rattle.hir_lower.specs.Building.{Builds}
 
 -- the code at this place is evaluated with these events, and its value means these writes
 pub record Runs (store : ExpressionStore) (id : ExprId) (events : List Event) (writes : Writes) : Type 0 where
@@ -83,13 +84,13 @@ pub record IsFormatCode (store : ExpressionStore) (call : FormatCall) (id : Expr
 abbrev pub IsCode : ExpressionStore → Call → ExprId → Type 0
 IsCode store (Format call) id = IsFormatCode store call id
 
--- what becomes of a call under options: off exactly where one of its predicates, each by itself, reads false; else code
-abbrev pub IsOutcome : Options → ExpressionStore → GatedCall → Outcome → Type 0
+-- what becomes of a call under options: off exactly where one of its predicates, each by itself, evaluates to false; else code
+abbrev pub IsOutcome : OptionSet → ExpressionStore → GatedCall → Outcome → Type 0
 IsOutcome options store call Off = is_off options call.cfgs ≡ true
 IsOutcome options store call (Code id) = (is_off options call.cfgs ≡ false) × IsCode store call.call id
 
 -- one outcome for each call, in order
-abbrev pub AreOutcomes : Options → ExpressionStore → List GatedCall → List Outcome → Type 0
+abbrev pub AreOutcomes : OptionSet → ExpressionStore → List GatedCall → List Outcome → Type 0
 AreOutcomes options store [] [] = Unit {0}
 AreOutcomes options store [] (outcome ∷ outcomes) = ⊥
 AreOutcomes options store (call ∷ calls) [] = ⊥
@@ -144,19 +145,38 @@ abbrev pub most_of_call : Call → ℕ
 most_of_call (Format call) = most_of_format call
 
 -- the most expressions that a gated call places: none where it is off
-abbrev pub most_of : Options → GatedCall → ℕ
+abbrev pub most_of : OptionSet → GatedCall → ℕ
 most_of options call = cond (is_off options call.cfgs) 0 (most_of_call call.call)
 
 -- the most expressions that calls place
-abbrev pub most_exprs : Options → List GatedCall → ℕ
+abbrev pub most_exprs : OptionSet → List GatedCall → ℕ
 most_exprs options [] = 0
 most_exprs options (call ∷ calls) = most_of options call + most_exprs options calls
 
 -- the most patterns that a gated call places, and the most bindings: none where it is off
-abbrev pub lets_of : Options → GatedCall → ℕ
+abbrev pub lets_of : OptionSet → GatedCall → ℕ
 lets_of options call = cond (is_off options call.cfgs) 0 2
 
 -- the most patterns that calls place, and the most bindings
-abbrev pub most_lets : Options → List GatedCall → ℕ
+abbrev pub most_lets : OptionSet → List GatedCall → ℕ
 most_lets options [] = 0
 most_lets options (call ∷ calls) = lets_of options call + most_lets options calls
+
+-- the code of a call was placed: it is in the new store, behind all that was in the old one, which grew by no more than the call's most
+pub record PlacesCall (old : ExpressionStore) (call : Call) (id : ExprId) (new : ExpressionStore) : Type 0 where
+  pub code : IsCode new call id
+  pub within : place_of id < length new.exprs
+  pub later : length old.exprs ≤ place_of id
+  pub builds : Builds old new (most_of_call call) 2
+
+-- a gated call was lowered: an off call leaves the store as it was; the code of any other was placed
+abbrev pub LowersCall : OptionSet → GatedCall → Outcome → ExpressionStore → ExpressionStore → Type 0
+LowersCall options call Off old new = (is_off options call.cfgs ≡ true) × (new ≡ old)
+LowersCall options call (Code id) old new = (is_off options call.cfgs ≡ false) × PlacesCall old call.call id new
+
+-- calls were lowered one after the other, with one outcome each: every call takes the store that the calls in front of it left
+abbrev pub Lowers : OptionSet → List GatedCall → List Outcome → ExpressionStore → ExpressionStore → Type 0
+Lowers options [] [] old new = new ≡ old
+Lowers options [] (outcome ∷ outcomes) old new = ⊥
+Lowers options (call ∷ calls) [] old new = ⊥
+Lowers options (call ∷ calls) (outcome ∷ outcomes) old new = (between : ExpressionStore) × LowersCall options call outcome old between × Lowers options calls outcomes between new

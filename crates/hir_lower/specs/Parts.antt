@@ -1,7 +1,7 @@
 -- The parts of a format text, one for each piece: what it stands for when the places of arguments are left out.
 use Rattle.std.specs.Prelude.{ℕ, suc, nat_eq, ◌&&◌, cond, List, [], ◌∷◌, ◌++◌, map, encode_utf8, Option, Some, None, option_map}
 use Rattle.code_meaning.specs.Write.{Piece, Literal, Placeholder}
-use Rattle.code_meaning.specs.Template.{Item, ByteItem, SlotItem}
+use Rattle.code_meaning.specs.Template.{TemplateItem, ByteItem, SlotItem}
 use Rattle.hir_lower.specs.declared.template_text.Part.{Part}
 use Rattle.hir_lower.specs.declared.template_text.Part.TheVariants.{Letter, Hole}
 use Rattle.hir_lower.specs.Pieces.{is_brace, plainly}
@@ -43,7 +43,7 @@ pieces_from next (Letter c ∷ parts) = Literal c ∷ pieces_from next parts
 pieces_from next (Hole ∷ parts) = Placeholder next plainly ∷ pieces_from (suc next) parts
 
 -- what template bytes decode to for parts, where the next argument is at this place
-abbrev pub items_from : ℕ → List Part → List Item
+abbrev pub items_from : ℕ → List Part → List TemplateItem
 items_from next [] = []
 items_from next (Letter c ∷ parts) = map ByteItem (encode_utf8 c) ++ items_from next parts
 items_from next (Hole ∷ parts) = SlotItem (plain_slot next) ∷ items_from (suc next) parts

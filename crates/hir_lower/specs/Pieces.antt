@@ -3,13 +3,13 @@
 use Rattle.std.specs.Prelude.{◌≡◌, ℕ, suc, Bool, true, false, ◌||◌, nat_eq, List, [], ◌∷◌, None}
 use Rattle.std.specs.Str.{chars}
 use Rattle.text_cut.specs.Reading.{Spelled, items, IsRead}
-use Rattle.code_meaning.specs.Write.{Display, Options, NoCount, Asked, Piece, Literal, Placeholder}
+use Rattle.code_meaning.specs.Write.{Display, FormattingOptions, NoCount, Asked, Piece, Literal, Placeholder}
 
 abbrev pub is_brace : ℕ → Bool
 is_brace c = nat_eq c 123 || nat_eq c 125
 
 -- a space as fill, and nothing else
-abbrev pub plain_options : Options
+abbrev pub plain_options : FormattingOptions
 plain_options = record { fill = 32; alignment = None; sign = None; alternate = false; zero_pad = false; debug_hex = None }
 
 -- what `{}` asks of its argument

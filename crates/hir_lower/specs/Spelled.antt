@@ -4,7 +4,7 @@ use Rattle.std.specs.Prelude.{◌≡◌, ℕ, ◌/◌, ◌%◌, ◌<◌, ◌≤�
 use Rattle.std.specs.List.{flat_map}
 use Rattle.std.specs.Str.{IsUtf8}
 use Rattle.code_meaning.specs.Write.{NoCount}
-use Rattle.code_meaning.specs.Template.{Item, Slot, items_of, options_of, plain_flags}
+use Rattle.code_meaning.specs.Template.{TemplateItem, Slot, items_of, options_of, plain_flags}
 use Rattle.hir_lower.specs.declared.template.TemplateBytes.{TemplateBytes}
 
 -- the first chunk of a text, and what is behind it: the longest of the fronts of the text that end at a character's end and have at most
@@ -40,13 +40,13 @@ abbrev pub plain_slot : ℕ → Slot
 plain_slot place = record { place = place; options = options_of plain_flags; width = NoCount; precision = NoCount }
 
 -- bytes that begin where the slot at `next` is the next one spell items, and `behind` is the next place behind them
-pub record Spells (next : ℕ) (bytes : List ℕ) (items : List Item) (behind : ℕ) : Type 0 where
-  pub by : (rest : List ℕ) (more : List Item) → items_of behind 0 rest ≡ Some more → items_of next 0 (bytes ++ rest) ≡ Some (items ++ more)
+pub record Spells (next : ℕ) (bytes : List ℕ) (items : List TemplateItem) (behind : ℕ) : Type 0 where
+  pub by : (rest : List ℕ) (more : List TemplateItem) → items_of behind 0 rest ≡ Some more → items_of next 0 (bytes ++ rest) ≡ Some (items ++ more)
 
 -- a template spells these items, from its first byte on
-abbrev pub IsSpelled : TemplateBytes → List Item → Type 0
+abbrev pub IsSpelled : TemplateBytes → List TemplateItem → Type 0
 IsSpelled template items = Spells 0 template.bytes.items items template.next
 
 -- a template spells these items behind those that it spelled before
-abbrev pub Adds : TemplateBytes → TemplateBytes → List Item → Type 0
-Adds old new added = (items : List Item) → IsSpelled old items → IsSpelled new (items ++ added)
+abbrev pub Adds : TemplateBytes → TemplateBytes → List TemplateItem → Type 0
+Adds old new added = (items : List TemplateItem) → IsSpelled old items → IsSpelled new (items ++ added)

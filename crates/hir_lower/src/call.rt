@@ -6,7 +6,7 @@ use syn_trees::FormatCall;
 /// A macro call of a function body, with what decides whether it is switched on.
 #[derive(Debug, Drop)]
 pub struct GatedCall {
-    /// The predicates of the call, in order. It is off where one of them, taken by itself, reads false.
+    /// The predicates of the call, in order. It is off where one of them, taken by itself, evaluates to `Some(false)`.
     pub cfgs: Items<CfgExpr>,
     /// What is called.
     pub call: Call,
@@ -22,7 +22,7 @@ pub enum Call {
 /// What becomes of a call.
 #[derive(Debug, PartialEq, Eq, Drop)]
 pub enum Outcome {
-    /// The call is off: one of its predicates reads false.
+    /// The call is off: one of its predicates evaluates to `Some(false)`.
     Off,
     /// The call is lowered to the expression at this place.
     Code(ExprId),

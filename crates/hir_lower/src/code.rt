@@ -1,4 +1,4 @@
-ghost use Rattle.std.specs.Prelude.{◌≡◌, ◌≢◌, ℕ, false, ◌+◌, ◌*◌, ◌<◌, ◌≤◌, [], ◌∷◌, ◌++◌, length, drop, Some, None, IfOk, OnErr};
+ghost use Rattle.std.specs.Prelude.{◌≡◌, ℕ, false, ◌+◌, ◌*◌, ◌<◌, ◌≤◌, [], ◌∷◌, length, drop, Some, None, IfOk, OnErr};
 ghost use Rattle.sym_core.specs.declared.name.Name.{Name};
 ghost use Rattle.code_meaning.specs.Write.{Display};
 ghost use Rattle.hir_store.specs.Tree.{Tree, Steps, Path, Ref, Tuple, Field, Array, Call, Block, Empty, More, Let};
@@ -20,7 +20,7 @@ use hir_store::{
 };
 use la_arena::ArenaError;
 use sqlite_items::Items;
-use std::alloc::{AllocError, Global};
+use std::alloc::Global;
 use sym_core::{Name, Symbol};
 use syn_trees::FormatArgSyntax;
 
@@ -67,17 +67,6 @@ fn place_reference(store: &mut ExpressionStore, arg: &FormatArgSyntax) -> Result
     Ok(reference)
 }
 
-// One more part.
-fn with_part(mut so_far: Vec<ExprId>, part: ExprId) -> Result<Vec<ExprId>, LowerError>
-    ensures value { IfOk result (λ more. more.items ≡ so_far.items ++ part ∷ []) }
-    ensures memory { result ≢ Err LowerError.ArenaFull }
-{
-    match so_far.push(part) {
-        Ok(()) => Ok(so_far),
-        Err(_) => Err(LowerError::Memory(AllocError)),
-    }
-}
-
 // Places `&ARG` for each argument, in order.
 fn place_references(
     alloc: Global,
@@ -91,7 +80,7 @@ fn place_references(
     let mut parts = Vec::new(alloc);
     for arg in args {
         let reference = place_reference(store, arg)?;
-        parts = with_part(parts, reference)?;
+        parts.push(reference)?;
     }
     Ok(Items::from_vec(parts))
 }
@@ -156,7 +145,7 @@ fn place_elements(
     let mut parts = Vec::new(alloc);
     for element in 0..pairs {
         let made = place_made(alloc, store, number, named_place(count, element))?;
-        parts = with_part(parts, made)?;
+        parts.push(made)?;
     }
     Ok(Items::from_vec(parts))
 }
@@ -240,17 +229,6 @@ fn place_array(
     Ok(statement)
 }
 
-// Two statements, in a list of their own.
-fn two(alloc: Global, first: Statement, second: Statement) -> Result<Vec<Statement>, LowerError>
-    ensures value { IfOk result (λ statements. statements.items ≡ first ∷ second ∷ []) }
-    ensures memory { result ≢ Err LowerError.ArenaFull }
-{
-    match Vec::from_slice(alloc, &[first, second]) {
-        Ok(statements) => Ok(statements),
-        Err(refused) => Err(LowerError::Memory(refused)),
-    }
-}
-
 // The two `let`s of a call with arguments.
 fn place_lets(
     alloc: Global,
@@ -265,19 +243,8 @@ fn place_lets(
 {
     let tuple = place_tuple(alloc, store, number, args)?;
     let array = place_array(alloc, store, number, args.len(), pairs)?;
-    let lets = two(alloc, tuple, array)?;
+    let lets = Vec::from_slice(alloc, &[tuple, array])?;
     Ok(lets)
-}
-
-// One more expression as a statement.
-fn with_statement(mut so_far: Vec<Statement>, expr: ExprId) -> Result<Vec<Statement>, LowerError>
-    ensures value { IfOk result (λ more. more.items ≡ so_far.items ++ Statement.Expr expr ∷ []) }
-    ensures memory { result ≢ Err LowerError.ArenaFull }
-{
-    match so_far.push(Statement::Expr(expr)) {
-        Ok(()) => Ok(so_far),
-        Err(_) => Err(LowerError::Memory(AllocError)),
-    }
 }
 
 // Places each argument, in order, as a statement behind those so far.
@@ -293,7 +260,7 @@ fn place_arguments(
     let mut statements = so_far;
     for arg in args {
         let argument = place_argument(store, arg)?;
-        statements = with_statement(statements, argument)?;
+        statements.push(Statement::Expr(argument))?;
     }
     Ok(statements)
 }

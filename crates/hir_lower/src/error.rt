@@ -1,5 +1,5 @@
 use la_arena::ArenaError;
-use std::alloc::AllocError;
+use std::alloc::{AllocError, AllocFailed};
 use thiserror::Error;
 
 /// Why calls were not lowered.
@@ -35,5 +35,16 @@ impl From<AllocError> for LowerError {
 
     fn from(error: AllocError) -> LowerError {
         LowerError::Memory(error)
+    }
+}
+
+impl<T: Drop> From<AllocFailed<T>> for LowerError {
+    ghost use Rattle.std.specs.Prelude.{◌≡◌, alloc_error};
+    ghost use Rattle.hir_lower.specs.declared.error.LowerError.TheVariants.{Memory};
+
+    ghost from_gives = { λ failed refused. refused ≡ Memory alloc_error };
+
+    fn from(_failed: AllocFailed<T>) -> LowerError {
+        LowerError::Memory(AllocError)
     }
 }

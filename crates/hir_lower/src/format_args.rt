@@ -1,7 +1,7 @@
 ghost use Rattle.std.specs.Prelude.{◌≡◌, ◌+◌, ◌*◌, ◌<◌, ◌≤◌, ◌≢◌, length, Some, IfOk, OnErr, IsTrue};
 ghost use Rattle.hir_store.specs.Tree.{is_whole};
 ghost use Rattle.hir_store.specs.Unfolding.{place_of, tree_over};
-ghost use Rattle.hir_store.specs.Store.{Grows, Stands, IsPlaced, PlacesExpr};
+ghost use Rattle.hir_store.specs.Store.{Grows, Stands, NoDanglingIds, PlacesExpr};
 ghost use Rattle.syn_trees.specs.declared.format_call.Template.TheVariants.{Str};
 ghost use Rattle.hir_lower.specs.Code.{from_str_code};
 ghost use Rattle.hir_lower.specs.FormatCode.{text_code};
@@ -24,10 +24,7 @@ pub(crate) fn list(alloc: Global, ids: &[ExprId]) -> Result<Items<ExprId>, Lower
     ensures value { IfOk result (λ items. items ≡ ids.now) }
     ensures memory { result ≢ Err LowerError.ArenaFull }
 {
-    match Items::from_slice(alloc, ids) {
-        Ok(items) => Ok(items),
-        Err(refused) => Err(LowerError::Memory(refused)),
-    }
+    Items::from_slice(alloc, ids).map_err(LowerError::Memory)
 }
 
 // Places an expression.
@@ -37,7 +34,7 @@ pub(crate) fn place(store: &mut ExpressionStore, expr: Expr) -> Result<ExprId, L
     ensures patterns { store.new.pats ≡ store.old.pats }
     ensures bindings { store.new.bindings ≡ store.old.bindings }
     ensures err { OnErr result (store.new ≡ store.old) }
-    ensures kept { IsPlaced store.old → IsTrue (is_whole (tree_over store.old expr)) → IsPlaced store.new }
+    ensures kept { NoDanglingIds store.old → IsTrue (is_whole (tree_over store.old expr)) → NoDanglingIds store.new }
     ensures count { length store.new.exprs ≤ length store.old.exprs + 1 }
     ensures full { result ≡ Err LowerError.ArenaFull → 4_294_967_295 < length store.old.exprs + 1 }
 {
@@ -59,7 +56,7 @@ pub(crate) fn call_from_str(
     ensures grows { Grows store.old store.new }
     ensures patterns { store.new.pats ≡ store.old.pats }
     ensures bindings { store.new.bindings ≡ store.old.bindings }
-    ensures kept { IsPlaced store.old → IsPlaced store.new }
+    ensures kept { NoDanglingIds store.old → NoDanglingIds store.new }
     ensures count { length store.new.exprs ≤ length store.old.exprs + 3 }
     ensures full { result ≡ Err LowerError.ArenaFull → 4_294_967_295 < length store.old.exprs + 3 }
 {
@@ -108,36 +105,14 @@ fn call_text(alloc: Global, f: &FormatCall) -> Result<Option<Symbol>, LowerError
     }
 }
 
-// Reads a text.
-fn read_text(alloc: Global, text: &str) -> Result<Option<Template>, LowerError>
-    ensures read { IfOk result (λ found. IsTemplateOf text.now found) }
-    ensures memory { result ≢ Err LowerError.ArenaFull }
-{
-    match read_template(alloc, text) {
-        Ok(found) => Ok(found),
-        Err(refused) => Err(LowerError::Memory(refused)),
-    }
-}
-
 // Reads the text of a call. There is nothing to read where its template reaches no text.
 fn template_of(alloc: Global, f: &FormatCall) -> Result<Option<Template>, LowerError>
     ensures read { IfOk result (λ found. IsTemplateOfCall f.now found) }
     ensures memory { result ≢ Err LowerError.ArenaFull }
 {
     match call_text(alloc, f)? {
-        Some(text) => read_text(alloc, text.as_str()),
+        Some(text) => Ok(read_template(alloc, text.as_str())?),
         None => Ok(None),
-    }
-}
-
-// A text, as a symbol.
-fn symbol_of(alloc: Global, text: &str) -> Result<Symbol, LowerError>
-    ensures value { IfOk result (λ symbol. symbol ≡ text.now) }
-    ensures memory { result ≢ Err LowerError.ArenaFull }
-{
-    match Symbol::new(alloc, text) {
-        Ok(symbol) => Ok(symbol),
-        Err(refused) => Err(LowerError::Memory(refused)),
     }
 }
 
@@ -153,7 +128,7 @@ fn collect_text(
     ensures builds { Builds store.old store.new (length args.now + 4) 0 }
     ensures full { result ≡ Err LowerError.ArenaFull → 4_294_967_295 < length store.old.exprs + length args.now + 4 }
 {
-    let text = symbol_of(alloc, text)?;
+    let text = Symbol::new(alloc, text).map_err(LowerError::Memory)?;
     let code = place_text(alloc, store, args, text)?;
     Ok(code)
 }

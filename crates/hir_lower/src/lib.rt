@@ -1,5 +1,5 @@
 //! The lowering of calls in a function body to expressions of a store.
-//! What a call means is said of finished code: its evaluation, and the writes that its value stands for.
+//! What a call means is said of finished code: its evaluation, and the writes that its value stands for. See [`ExprCollector`].
 #![tactic(auto)]
 
 mod call;

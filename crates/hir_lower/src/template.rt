@@ -1,5 +1,5 @@
 ghost use Rattle.std.specs.Prelude.{◌≡◌, ℕ, ◌+◌, ◌<◌, ◌≤◌, List, [], ◌∷◌, ◌++◌, length, map, IfOk, OnOk, take, drop};
-ghost use Rattle.code_meaning.specs.Template.{Item, ByteItem, SlotItem, decoded};
+ghost use Rattle.code_meaning.specs.Template.{TemplateItem, ByteItem, SlotItem, decoded};
 ghost use Rattle.hir_lower.specs.Spelled.{IsChunk, size_bytes, chunk_bytes, AppendsLiteral, plain_slot, IsSpelled, Adds};
 
 use std::alloc::{AllocError, Global};
@@ -101,7 +101,7 @@ impl TemplateBytes {
 
     /// The whole template: the bytes so far, and the end.
     pub(crate) fn finish(mut self) -> Result<Vec<u8>, AllocError>
-        ensures decodes { IfOk result (λ bytes. (items : List Item) → IsSpelled self items → decoded bytes.items ≡ Some items) }
+        ensures decodes { IfOk result (λ bytes. (items : List TemplateItem) → IsSpelled self items → decoded bytes.items ≡ Some items) }
         ensures bytes { IfOk result (λ bytes. bytes.items ≡ self.bytes.items ++ 0 ∷ []) }
     {
         self.bytes.push(0)?;

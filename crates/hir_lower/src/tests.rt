@@ -48,59 +48,68 @@ fn call(alloc: Global, flags: &[&str], token: &str, count: u32) -> Result<GatedC
     })
 }
 
-// Lowers a call where the option `a` is set: whether it is off, and how many expressions and patterns are placed.
-fn lowered(alloc: Global, call: GatedCall) -> Result<(bool, usize, usize), LowerError> {
+// Lowers such a call where the option `a` is set: whether it is off, and how many expressions and patterns are placed.
+fn lowered(
+    alloc: Global,
+    flags: &[&str],
+    token: &str,
+    count: u32,
+) -> Result<(bool, usize, usize), LowerError> {
     let mut options = CfgOptions::new(alloc)?;
     options.insert_atom(Symbol::new(alloc, "a")?)?;
     let mut collector = ExprCollector::new(alloc);
+    let call = call(alloc, flags, token, count)?;
     let outcomes = collector.collect_gated(alloc, &[call], &options)?;
     let off = matches!(outcomes.as_slice(), [Outcome::Off]);
     let store = collector.store();
     Ok((off, store.exprs.len(), store.pats.len()))
 }
 
+// Three for a text, and one for each argument and their block.
 #[test]
-fn places_no_more_than_a_call_needs(rt: HostRuntime) -> Result<(), Fail> {
+fn places_no_more_than_a_text_needs(rt: HostRuntime) -> Result<(), Fail> {
     let alloc = rt.alloc();
-    // Three for a text, and one for each argument and their block; 2n + 4p + 9 with placeholders.
-    let cases = [
-        (r#""hi""#, 0, 3, 0),
-        (r#""hi""#, 2, 6, 0),
-        (r#""\q""#, 2, 6, 0),
-        (r#""{""#, 1, 5, 0),
-        (r#""{}""#, 1, 15, 2),
-        (r#""{}{}""#, 2, 21, 2),
-        (r##"r#"{{"}}"#"##, 0, 3, 0),
-    ];
-    for (token, count, exprs, pats) in cases {
-        let call = call(alloc, &[], token, count)?;
-        assert_eq!(rt; lowered(alloc, call)?, (false, exprs, pats), "of {token}");
-    }
+    assert_eq!(rt; lowered(alloc, &[], r#""hi""#, 0)?, (false, 3, 0));
+    assert_eq!(rt; lowered(alloc, &[], r#""hi""#, 2)?, (false, 6, 0));
+    assert_eq!(rt; lowered(alloc, &[], r#""\q""#, 2)?, (false, 6, 0));
+    assert_eq!(rt; lowered(alloc, &[], r#""{""#, 1)?, (false, 5, 0));
+    assert_eq!(rt; lowered(alloc, &[], r##"r#"{{"}}"#"##, 0)?, (false, 3, 0));
+    Ok(())
+}
+
+// For n arguments and p placeholders 2n + 4p + 9, and one more for each argument behind the first p.
+#[test]
+fn places_no_more_than_placeholders_need(rt: HostRuntime) -> Result<(), Fail> {
+    let alloc = rt.alloc();
+    assert_eq!(rt; lowered(alloc, &[], r#""{}""#, 1)?, (false, 15, 2));
+    assert_eq!(rt; lowered(alloc, &[], r#""{}{}""#, 2)?, (false, 21, 2));
+    assert_eq!(rt; lowered(alloc, &[], r#""{}""#, 3)?, (false, 21, 2));
     Ok(())
 }
 
 #[test]
 fn lowers_what_is_not_off(rt: HostRuntime) -> Result<(), Fail> {
     let alloc = rt.alloc();
-    let cases: [(&[&str], bool, usize); 4] = [
-        (&["a"], false, 3),
-        (&["b"], true, 0),
-        (&["a", "b"], true, 0),
-        (&["true", "a"], false, 3),
-    ];
-    for (flags, off, exprs) in cases {
-        let call = call(alloc, flags, r#""x""#, 0)?;
-        assert_eq!(rt; lowered(alloc, call)?, (off, exprs, 0), "under {flags:?}");
-    }
+    assert_eq!(rt; lowered(alloc, &["a"], r#""x""#, 0)?, (false, 3, 0));
+    assert_eq!(rt; lowered(alloc, &["b"], r#""x""#, 0)?, (true, 0, 0));
+    assert_eq!(rt; lowered(alloc, &["a", "b"], r#""x""#, 0)?, (true, 0, 0));
+    assert_eq!(rt; lowered(alloc, &["true", "a"], r#""x""#, 0)?, (false, 3, 0));
     Ok(())
 }
 
 #[test]
-fn lowers_no_calls(rt: HostRuntime) -> Result<(), Fail> {
+fn lowers_calls_in_order(rt: HostRuntime) -> Result<(), Fail> {
     let alloc = rt.alloc();
-    let options = CfgOptions::new(alloc)?;
+    let mut options = CfgOptions::new(alloc)?;
+    options.insert_atom(Symbol::new(alloc, "unix")?)?;
+    let calls = [
+        call(alloc, &["windows"], r#""a""#, 0)?,
+        call(alloc, &["unix"], r#""b""#, 0)?,
+    ];
     let mut collector = ExprCollector::new(alloc);
-    assert!(rt; collector.collect_gated(alloc, &[], &options)?.is_empty());
+    let outcomes = collector.collect_gated(alloc, &calls, &options)?;
+    assert!(rt; matches!(outcomes.as_slice(), [Outcome::Off, Outcome::Code(_)]));
+    assert_eq!(rt; collector.store().exprs.len(), 3);
     Ok(())
 }
 
@@ -119,7 +128,9 @@ fn placeholders(alloc: Global, count: usize) -> Result<String, AllocError> {
 fn lowers_a_million_placeholders(rt: HostRuntime) -> Result<(), Fail> {
     let alloc = rt.alloc();
     let token = placeholders(alloc, 1_000_000)?;
-    let call = call(alloc, &[], token.as_str(), 1_000_000)?;
-    assert_eq!(rt; lowered(alloc, call)?, (false, 6_000_009, 2));
+    assert_eq!(rt;
+        lowered(alloc, &[], token.as_str(), 1_000_000)?,
+        (false, 6_000_009, 2)
+    );
     Ok(())
 }

@@ -1,6 +1,6 @@
 -- A store that grows keeps its names and its whole trees.
 use Rattle.std.proofs.Common.{◌≡◌, ◌+◌, ◌<◌, ◌≤◌, List, [], ◌∷◌, ◌++◌, length, reverse, map, slice_get, Some, None, Option, is_some, IsTrue, refl, sym, ap, ◌∙◌, subst, arith, length-append, append_assoc, ap₂, true≢false}
-use Rattle.std.proofs.lemmas.Option.{slice_get-map, slice_get_within}
+use Rattle.std.proofs.lemmas.Option.{slice_get-map}
 use Rattle.std.proofs.lemmas.List.{length-reverse, map-append}
 use Rattle.std.proofs.lemmas.Bool.{and_from}
 use Rattle.la_arena.specs.Idx.{number_of}
@@ -15,8 +15,8 @@ use Rattle.hir_store.specs.declared.pat.Binding.{Binding}
 use Rattle.hir_store.specs.declared.store.ExpressionStore.{ExpressionStore}
 use Rattle.hir_store.specs.Tree.{Tree, Trees, Empty, More, trees, is_whole, all_whole}
 use Rattle.hir_store.specs.Unfolding.{place_of, binding_name, bound_name, name_in, node, trees_of, tree_in, tree_at, tree_over}
-use Rattle.hir_store.specs.Parts.{PartsBelow}
-use Rattle.hir_store.specs.Store.{Extends, Grows, Stands, AllStand, IsPlaced}
+use Rattle.hir_store.specs.PartsBelow.{PartsBelow}
+use Rattle.hir_store.specs.Store.{Extends, Grows, Stands, AllStand}
 use Rattle.hir_store.proofs.Lists.{extends_self, extends_on, kept_on, splits}
 use Rattle.hir_store.proofs.Maps.{older_self, older_on}
 use Rattle.hir_store.proofs.Nodes.{KeepsNames, KeepsTrees, WholeBelow, names_same, same_node, node_below}
@@ -131,10 +131,3 @@ parts_before store id e is whole =
     let below : WholeBelow (place_of id) (tree_in (name_in store) (reverse s.front)) = λ part was.
     omega (arith, whole_within (name_in store) (reverse s.front) part was, length-reverse s.front, s.place) in
     node_below (place_of id) (name_in store) (tree_in (name_in store) (reverse s.front)) below e (subst (λ t. IsTrue (is_whole t)) here whole)
-
-module _ (store : ExpressionStore) (placed : IsPlaced store) where
-  pub placed_tree : (id : ExprId) (e : Expr) → slice_get store.exprs (place_of id) ≡ Some e → tree_at store id ≡ tree_over store e
-  placed_tree id e is = tree_is store id e is (placed.whole id (slice_get_within store.exprs (place_of id) e is))
-
-  pub placed_parts : (id : ExprId) (e : Expr) → slice_get store.exprs (place_of id) ≡ Some e → PartsBelow (place_of id) e
-  placed_parts id e is = parts_before store id e is (placed.whole id (slice_get_within store.exprs (place_of id) e is))

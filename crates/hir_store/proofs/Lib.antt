@@ -3,6 +3,6 @@ pub mod Nodes
 pub mod Unfolds
 pub mod Maps
 pub mod Grown
-pub mod Placed
+pub mod Placing
 pub mod Defined
 pub mod Made

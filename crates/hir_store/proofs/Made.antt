@@ -14,7 +14,7 @@ use Rattle.hir_store.specs.Unfolding.{name_in, let_step, steps_of, literal_tree,
 use Rattle.hir_store.specs.Store.{Stands, AllStand, PlacesExpr}
 use Rattle.hir_store.specs.Makes.{TailMakes, StepsMake, Makes}
 use Rattle.hir_store.proofs.Grown.{trees_of_all, whole_of_all}
-use Rattle.hir_store.proofs.Placed.{stands_placed}
+use Rattle.hir_store.proofs.Placing.{stands_placed}
 
 -- a tree that an expression unfolds to, with every part there
 pub record IsOver (store : ExpressionStore) (e : Expr) (t : Tree) : Type 0 where

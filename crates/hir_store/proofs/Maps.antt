@@ -8,7 +8,7 @@ use Rattle.sym_core.specs.declared.files.AstPtr.{AstPtr}
 use Rattle.hir_store.specs.declared.ids.ExprId.{ExprId}
 use Rattle.hir_store.specs.declared.store.ExpressionStore.{ExpressionStore}
 use Rattle.hir_store.specs.Unfolding.{place_of}
-use Rattle.hir_store.specs.Sources.{HoldsBelow, SameBelow, HoldsPlaced, SameAtOlder, SameMaps, EntersSource}
+use Rattle.hir_store.specs.Sources.{HoldsBelow, SameBelow, NoDanglingKeys, SameAtOlder, SameMaps, EntersSource}
 
 module _ {A : Type 0} (limit : ℕ) where
   same_below : (old new : List (Option A)) → new ≡ old → SameBelow limit old new
@@ -42,7 +42,7 @@ module _ (old new : ExpressionStore) where
     captures = same_below (length old.exprs) old.format_args_to_captures new.format_args_to_captures maps.captures;
   }
 
-  pub maps_still : SameMaps old new → length old.exprs ≤ length new.exprs → HoldsPlaced old → HoldsPlaced new
+  pub maps_still : SameMaps old new → length old.exprs ≤ length new.exprs → NoDanglingKeys old → NoDanglingKeys new
   maps_still maps le held = record {
     sources = holds_later (length old.exprs) (length new.exprs) old.expr_map_back new.expr_map_back le maps.sources held.sources;
     capture_sources = holds_later (length old.exprs) (length new.exprs) old.implicit_capture_to_source new.implicit_capture_to_source le maps.capture_sources held.capture_sources;
@@ -58,7 +58,7 @@ module _ (old new : ExpressionStore) where
       captures = same_below (length old.exprs) old.format_args_to_captures new.format_args_to_captures enters.captures;
     }
 
-    pub maps_with_source : length old.exprs ≤ length new.exprs → place_of id < length new.exprs → HoldsPlaced old → HoldsPlaced new
+    pub maps_with_source : length old.exprs ≤ length new.exprs → place_of id < length new.exprs → NoDanglingKeys old → NoDanglingKeys new
     maps_with_source le lt held = record {
       sources = holds_write (length old.exprs) (length new.exprs) old.expr_map_back new.expr_map_back (place_of id) (Some ptr) le lt enters.sources held.sources;
       capture_sources = holds_later (length old.exprs) (length new.exprs) old.implicit_capture_to_source new.implicit_capture_to_source le enters.capture_sources held.capture_sources;

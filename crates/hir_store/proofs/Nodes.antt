@@ -10,7 +10,7 @@ use Rattle.hir_store.specs.declared.expr.Statement.{Statement}
 use Rattle.hir_store.specs.declared.expr.Statement.TheVariants as statement
 use Rattle.hir_store.specs.Tree.{Tree, Steps, is_whole, all_whole, steps_whole, Ref, Tuple, Field, Array, Call, Block, More, Tail, Let, Do}
 use Rattle.hir_store.specs.Unfolding.{place_of, node, trees_of, let_step, steps_of}
-use Rattle.hir_store.specs.Parts.{AllBelow, StepsBelow, PartsBelow}
+use Rattle.hir_store.specs.PartsBelow.{AllBelow, StepsBelow, PartsBelow}
 
 -- a name that a pattern had is the name that it has
 abbrev pub KeepsNames : (PatId → Option Name) → (PatId → Option Name) → Type 0

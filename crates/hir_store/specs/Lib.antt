@@ -1,6 +1,6 @@
 pub mod Tree
 pub mod Unfolding
-pub mod Parts
+pub mod PartsBelow
 pub mod Sources
 pub mod Store
 pub mod Makes

@@ -17,7 +17,7 @@ module _ {A : Type 0} (limit : ℕ) where
   SameBelow old new = (number : ℕ) → number < limit → slot_at new number ≡ slot_at old number
 
 -- each map holds values at expressions of the store alone
-pub record HoldsPlaced (store : ExpressionStore) : Type 0 where
+pub record NoDanglingKeys (store : ExpressionStore) : Type 0 where
   pub sources : HoldsBelow (length store.exprs) store.expr_map_back
   pub capture_sources : HoldsBelow (length store.exprs) store.implicit_capture_to_source
   pub captures : HoldsBelow (length store.exprs) store.format_args_to_captures

@@ -12,7 +12,7 @@ use Rattle.hir_store.specs.declared.pat.Binding.{Binding}
 use Rattle.hir_store.specs.declared.store.ExpressionStore.{ExpressionStore}
 use Rattle.hir_store.specs.Tree.{Tree, Trees, Empty, More, is_whole}
 use Rattle.hir_store.specs.Unfolding.{place_of, tree_at}
-use Rattle.hir_store.specs.Sources.{SameAtOlder, HoldsPlaced}
+use Rattle.hir_store.specs.Sources.{SameAtOlder, NoDanglingKeys}
 
 -- a list is another one with more behind it
 abbrev pub Extends : {A : Type 0} → List A → List A → Type 0
@@ -89,12 +89,12 @@ pub record IsEmptyStore (store : ExpressionStore) : Type 0 where
   pub capture_sources : store.implicit_capture_to_source ≡ []
   pub captures : store.format_args_to_captures ≡ []
 
--- whatever the store names is in it: each index stands for a whole tree, whose parts all come before what they are parts of, and patterns, bindings and maps name what is there
-pub record IsPlaced (store : ExpressionStore) : Type 0 where
+-- a store without dangling ids: whatever it names is in it: each index stands for a whole tree, whose parts all come before what they are parts of, and patterns, bindings and maps name what is there
+pub record NoDanglingIds (store : ExpressionStore) : Type 0 where
   pub whole : (id : ExprId) → place_of id < length store.exprs → IsTrue (is_whole (tree_at store id))
   pub patterns : (number : ℕ) (pat : Pat) → slice_get store.pats number ≡ Some pat → BindsWithin store pat
   pub definitions : (number : ℕ) (binding : Binding) → slice_get store.bindings number ≡ Some binding → DefinedWithin store binding.definition
-  pub maps : HoldsPlaced store
+  pub maps : NoDanglingKeys store
 
 -- the number of the pattern that defines a binding, where one does
 abbrev pub definition_of : ExpressionStore → BindingId → Option ℕ

@@ -8,7 +8,17 @@ use sym_core::{AstPtr, InFile, Name, TextRange};
 
 /// The expressions, patterns and bindings of a body, and where they come from in the source.
 ///
-/// A store only grows: an index, once given, names the same expression, pattern or binding from then on.
+/// A store only grows: an index, once given, names the same expression, pattern or binding from then on. Where `source(n)`
+/// is node `n` of a file:
+///
+/// ```
+/// let mut store = ExpressionStore::new(rt.alloc());
+/// let leaf = store.alloc_expr(Expr::Leaf(7), source(5))?;
+/// let reference = store.alloc_expr_desugared(Expr::Ref(leaf))?;
+/// assert!(rt; matches!(store.exprs[reference.idx()], Expr::Ref(_)));
+/// assert_eq!(rt; store.expr_map_back.get(leaf.idx()), Some(&source(5)));
+/// assert!(rt; !store.expr_map_back.contains_idx(reference.idx()));
+/// ```
 #[derive(Debug, Drop)]
 pub struct ExpressionStore {
     /// The expressions, each behind its parts.
@@ -30,12 +40,12 @@ impl ExpressionStore {
     ghost use Rattle.hir_store.specs.Unfolding.{tree_over, binding_name, bound_name, name_in};
     ghost use Rattle.la_arena.specs.Idx.{number_of};
     ghost use Rattle.hir_store.specs.Sources.{SameMaps, EntersSource};
-    ghost use Rattle.hir_store.specs.Store.{Grows, Stands, IsEmptyStore, IsPlaced, PlacesExpr, PlacesNewest, PlacesPat, PlacesBinding, BindsWithin, Defines, EachDefines};
+    ghost use Rattle.hir_store.specs.Store.{Grows, Stands, IsEmptyStore, NoDanglingIds, PlacesExpr, PlacesNewest, PlacesPat, PlacesBinding, BindsWithin, Defines, EachDefines};
 
     /// An empty store, which takes no memory.
     pub fn new(alloc: Global) -> ExpressionStore
         ensures empty { IsEmptyStore result }
-        ensures placed { IsPlaced result }
+        ensures no_dangling { NoDanglingIds result }
         ensures defined { EachDefines result }
     {
         ExpressionStore {
@@ -62,7 +72,7 @@ impl ExpressionStore {
         ensures err { OnErr result (self.new ≡ self.old ⊎ PlacesNewest self.old expr self.new) }
         ensures grows { Grows self.old self.new }
         ensures stands { IsTrue (is_whole (tree_over self.old expr)) → IfOk result (λ id. Stands self.new id (tree_over self.old expr)) }
-        ensures kept { IsPlaced self.old → IsTrue (is_whole (tree_over self.old expr)) → IsPlaced self.new }
+        ensures kept { NoDanglingIds self.old → IsTrue (is_whole (tree_over self.old expr)) → NoDanglingIds self.new }
     {
         let id = self.alloc_expr_desugared(expr)?;
         match self.expr_map_back.insert(id.idx(), ptr) {
@@ -83,7 +93,7 @@ impl ExpressionStore {
         ensures err { OnErr result (self.new ≡ self.old) }
         ensures grows { Grows self.old self.new }
         ensures stands { IsTrue (is_whole (tree_over self.old expr)) → IfOk result (λ id. Stands self.new id (tree_over self.old expr)) }
-        ensures kept { IsPlaced self.old → IsTrue (is_whole (tree_over self.old expr)) → IsPlaced self.new }
+        ensures kept { NoDanglingIds self.old → IsTrue (is_whole (tree_over self.old expr)) → NoDanglingIds self.new }
     {
         let idx = self.exprs.alloc(expr)?;
         Ok(ExprId::from(idx))
@@ -101,12 +111,21 @@ impl ExpressionStore {
         ensures err { OnErr result (self.new ≡ self.old) }
         ensures grows { Grows self.old self.new }
         ensures stands { IfOk result (λ id. Stands self.new id Missing) }
-        ensures kept { IsPlaced self.old → IsPlaced self.new }
+        ensures kept { NoDanglingIds self.old → NoDanglingIds self.new }
     {
         self.alloc_expr_desugared(Expr::Missing)
     }
 
     /// Places a binding of this name, which no pattern defines yet, and returns its index.
+    ///
+    /// ```
+    /// let first = store.alloc_binding(Name::fresh(0))?;
+    /// let second = store.alloc_binding(Name::fresh(1))?;
+    /// let pat = store.alloc_pat(Pat::Bind(second))?;
+    /// store.add_definition_to_binding(second, pat);
+    /// assert_eq!(rt; store.bindings[first.idx()].definition, None);
+    /// assert_eq!(rt; store.bindings[second.idx()].definition, Some(pat));
+    /// ```
     ///
     /// # Errors
     ///
@@ -118,7 +137,7 @@ impl ExpressionStore {
         ensures err { OnErr result (self.new ≡ self.old) }
         ensures grows { Grows self.old self.new }
         ensures named { IfOk result (λ id. binding_name self.new.bindings id ≡ Some name) }
-        ensures kept { IsPlaced self.old → IsPlaced self.new }
+        ensures kept { NoDanglingIds self.old → NoDanglingIds self.new }
     {
         let binding = Binding {
             name,
@@ -128,7 +147,7 @@ impl ExpressionStore {
         Ok(BindingId::from(idx))
     }
 
-    /// Places a pattern, and returns its index.
+    /// Places a pattern, and returns its index, as the example of [`ExpressionStore::alloc_binding`] shows.
     ///
     /// # Errors
     ///
@@ -140,18 +159,19 @@ impl ExpressionStore {
         ensures err { OnErr result (self.new ≡ self.old) }
         ensures grows { Grows self.old self.new }
         ensures named { IfOk result (λ id. name_in self.new id ≡ bound_name self.old.bindings (Some pat)) }
-        ensures kept { IsPlaced self.old → BindsWithin self.old pat → IsPlaced self.new }
+        ensures kept { NoDanglingIds self.old → BindsWithin self.old pat → NoDanglingIds self.new }
     {
         let idx = self.pats.alloc(pat)?;
         Ok(PatId::from(idx))
     }
 
-    /// Makes a pattern the definition of a binding. The binding must be in the store.
+    /// Makes a pattern the definition of a binding, as the example of [`ExpressionStore::alloc_binding`] shows. The binding
+    /// must be in the store.
     pub fn add_definition_to_binding(&mut self, binding: BindingId, pat: PatId)
         requires { number_of binding.raw < length self.old.bindings }
         ensures defines { Defines self.old binding pat self.new }
         ensures maps { SameMaps self.old self.new }
-        ensures kept { IsPlaced self.old → number_of pat.raw < length self.old.pats → IsPlaced self.new }
+        ensures kept { NoDanglingIds self.old → number_of pat.raw < length self.old.pats → NoDanglingIds self.new }
     {
         self.bindings[binding.idx()].definition = Some(pat);
     }
@@ -171,23 +191,28 @@ mod tests {
     }
 
     #[test]
+    fn holds_expressions(rt: HostRuntime) -> Result<(), Fail> {
+        let mut store = ExpressionStore::new(rt.alloc());
+        let leaf = store.alloc_expr(Expr::Leaf(7), source(5))?;
+        let reference = store.alloc_expr_desugared(Expr::Ref(leaf))?;
+        assert!(rt; matches!(store.exprs[reference.idx()], Expr::Ref(_)));
+        assert_eq!(rt; store.expr_map_back.get(leaf.idx()), Some(&source(5)));
+        assert!(rt; !store.expr_map_back.contains_idx(reference.idx()));
+        Ok(())
+    }
+
+    #[test]
     fn counts_each_kind_from_zero(rt: HostRuntime) -> Result<(), Fail> {
         let mut store = ExpressionStore::new(rt.alloc());
         let leaf = store.alloc_expr(Expr::Leaf(7), source(5))?;
-        let other = store.alloc_expr_desugared(Expr::Leaf(8))?;
         let missing = store.missing_expr()?;
         let binding = store.alloc_binding(Name::fresh(0))?;
         let pat = store.alloc_pat(Pat::Bind(binding))?;
         assert_eq!(rt; leaf.raw.into_u32(), 0);
-        assert_eq!(rt; other.raw.into_u32(), 1);
-        assert_eq!(rt; missing.raw.into_u32(), 2);
         assert_eq!(rt; binding.raw.into_u32(), 0);
         assert_eq!(rt; pat.raw.into_u32(), 0);
-        assert!(rt; matches!(store.exprs[leaf.idx()], Expr::Leaf(7)));
         assert!(rt; matches!(store.exprs[missing.idx()], Expr::Missing));
-        assert_eq!(rt; store.expr_map_back.get(leaf.idx()), Some(&source(5)));
-        assert!(rt; !store.expr_map_back.contains_idx(other.idx()));
-        assert_eq!(rt; format!(in rt.alloc(); "{missing:?}")?.as_str(), "Idx(2)");
+        assert_eq!(rt; format!(in rt.alloc(); "{missing:?}")?.as_str(), "Idx(1)");
         Ok(())
     }
 

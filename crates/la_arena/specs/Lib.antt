@@ -4,7 +4,7 @@ pub mod Laws
 pub mod IdxRange
 pub mod Iter
 pub mod Lends
-pub mod Options
+pub mod OptionLaws
 pub mod Map
 pub mod MapLends
 pub mod SlotsLeft

@@ -30,6 +30,15 @@ pub enum ArenaError {
 /// A list of values of one type, each reached by the index under which it was placed.
 ///
 /// It holds at most 4,294,967,295 values, whose indexes are 0 to 4,294,967,294.
+///
+/// ```
+/// let mut arena = Arena::new(rt.alloc());
+/// let one = arena.alloc(10)?;
+/// let two = arena.alloc(20)?;
+/// arena[two] = 21;
+/// assert_eq!(rt; arena[one], 10);
+/// assert_eq!(rt; arena.get(two), Some(&21));
+/// ```
 #[derive(Drop)]
 pub struct Arena<T> {
     data: Vec<T>,
@@ -111,6 +120,7 @@ impl<T> Arena<T> {
     where
         T: Drop,
         ensures ok { IfOk result (λ idx. Places self.old value (index_of idx) self.new) }
+        ensures fits { length self.new < 2 ^ 32 }
         ensures full { result ≡ Err ArenaError.Full ↔ (length self.old ≡ 4_294_967_295) }
         ensures err { OnErr result (self.new ≡ self.old) }
     {
@@ -127,6 +137,14 @@ impl<T> Arena<T> {
     /// Places the items of an iterator one behind the other, and returns the range of their indexes.
     ///
     /// The iterator must end. A refusal keeps the items that were placed before it, and drops the one that found no room.
+    ///
+    /// ```
+    /// let mut arena: Arena<u32> = Arena::new(rt.alloc());
+    /// arena.alloc(5)?;
+    /// let range = arena.alloc_many(7..9)?;
+    /// assert_eq!(rt; range.len(), 2);
+    /// assert_eq!(rt; arena.get(range.start()), Some(&7));
+    /// ```
     pub fn alloc_many<I: IntoIterator<Item = T>>(
         &mut self,
         iter: I,
@@ -135,6 +153,7 @@ impl<T> Arena<T> {
         T: Drop,
         requires { IsFiniteIterable I.into_iter_gives I.IntoIter.can_next I.IntoIter.remaining iter }
         ensures range { IfOk result (λ range. (range.start ≡ length self.old) × (range.end ≡ length self.new)) }
+        ensures ordered { IfOk result (λ range. range.start ≤ range.end) }
         ensures placed { (s : I.IntoIter) × (items : List T) × I.into_iter_gives iter s × PlacesItems I.IntoIter.next_gives s items self.old result self.new }
     {
         let start = self.next_idx();
@@ -174,23 +193,43 @@ impl<T> Arena<T> {
     }
 
     /// Returns an iterator over the arena's elements, each with its index.
+    ///
+    /// ```
+    /// let a = arena.alloc('a')?;
+    /// let b = arena.alloc('b')?;
+    /// let mut iter = arena.iter();
+    /// assert_eq!(rt; iter.next(), Some((a, &'a')));
+    /// assert_eq!(rt; iter.next_back(), Some((b, &'b')));
+    /// assert_eq!(rt; iter.next(), None);
+    /// ```
     pub fn iter(&self) -> Iter<'_, T>
-        ensures { result ≡ enumerate_from 0 self.now }
+        ensures left { result ≡ enumerate_from 0 self.now }
+        ensures fits { length self.now < 2 ^ 32 }
     {
         Iter::new(self.data.as_slice())
     }
 
     /// Returns an iterator over the arena's values.
     pub fn values(&self) -> Values<'_, T>
-        ensures { result ≡ self.now }
+        ensures left { result ≡ self.now }
+        ensures fits { length self.now < 2 ^ 32 }
     {
         Values::new(self.data.as_slice())
     }
 
     /// Returns an iterator over the arena's elements for writing, each with its index.
+    ///
+    /// ```
+    /// let mut arena = Arena::from_iter(rt.alloc(), ['a', 'b', 'c'])?;
+    /// if let Some((_, letter)) = arena.iter_mut().next_back() {
+    ///     *letter = 'z';
+    /// }
+    /// assert_eq!(rt; arena.values().next_back(), Some(&'z'));
+    /// ```
     pub fn iter_mut(&mut self) -> IterMut<'_, T>
         ensures* writes_back { sem 𝓛 (lends_values T.row self.entry (iter_mut_name result)) }
         ensures rest { iter_mut_rest result ≡ enumerate_from 0 self.old }
+        ensures fits { length self.old < 2 ^ 32 }
         ensures ready { IterMutCanStep result }
     {
         IterMut::new(self.data.as_mut_slice())
@@ -200,6 +239,7 @@ impl<T> Arena<T> {
     pub fn values_mut(&mut self) -> ValuesMut<'_, T>
         ensures* writes_back { sem 𝓛 (lends_values T.row self.entry (values_mut_name result)) }
         ensures rest { values_mut_rest result ≡ self.old }
+        ensures fits { length self.old < 2 ^ 32 }
     {
         ValuesMut::new(self.data.as_mut_slice())
     }
@@ -288,7 +328,7 @@ impl<T: Drop> IntoIterator for Arena<T> {
 
     type IntoIter = IntoIter<T>;
 
-    ghost into_iter_gives = { λ arena rest. rest ≡ enumerate_from 0 arena };
+    ghost into_iter_gives = { λ arena rest. (rest ≡ enumerate_from 0 arena) × (length arena < 2 ^ 32) };
 
     fn into_iter(self) -> IntoIter<T> {
         IntoIter::new(self.data)
@@ -347,20 +387,22 @@ mod tests {
     #[test]
     fn places_values(rt: HostRuntime) -> Result<(), Fail> {
         let mut arena = Arena::new(rt.alloc());
+        let one = arena.alloc(10)?;
+        let two = arena.alloc(20)?;
+        arena[two] = 21;
+        assert_eq!(rt; arena[one], 10);
+        assert_eq!(rt; arena.get(two), Some(&21));
+        Ok(())
+    }
+
+    #[test]
+    fn counts_from_zero(rt: HostRuntime) -> Result<(), Fail> {
+        let mut arena = Arena::new(rt.alloc());
         assert!(rt; arena.is_empty());
-        let first = arena.alloc(1)?;
-        let second = arena.alloc(2)?;
-        arena.alloc(3)?;
-        assert_eq!(rt; first, idx(0));
-        assert_eq!(rt; second, idx(1));
-        assert_eq!(rt; arena.len(), 3);
-        assert!(rt; !arena.is_empty());
-        assert_eq!(rt; arena.get(first), Some(&1));
-        assert_eq!(rt; arena.get(idx(3)), None);
-        assert_eq!(rt; arena[second], 2);
-        arena[second] = 5;
-        assert_eq!(rt; arena[first], 1);
-        assert_eq!(rt; arena[second], 5);
+        assert_eq!(rt; arena.alloc('a')?, idx(0));
+        assert_eq!(rt; arena.alloc('b')?, idx(1));
+        assert_eq!(rt; arena.len(), 2);
+        assert_eq!(rt; arena.get(idx(2)), None);
         arena.clear();
         assert!(rt; arena.is_empty());
         Ok(())
@@ -372,24 +414,38 @@ mod tests {
         let a = arena.alloc('a')?;
         let b = arena.alloc('b')?;
         let c = arena.alloc('c')?;
-        let d = arena.alloc('d')?;
-        assert_eq!(rt; arena.slice_of(IdxRange::new(b..d)), ['b', 'c'].as_slice());
+        assert_eq!(rt; arena.slice_of(IdxRange::new(a..c)), ['a', 'b'].as_slice());
         assert_eq!(rt;
-            arena.slice_of(IdxRange::new_inclusive(a..=c)),
-            ['a', 'b', 'c'].as_slice()
+            arena.slice_of(IdxRange::new_inclusive(b..=c)),
+            ['b', 'c'].as_slice()
         );
         assert_eq!(rt;
             arena.slice_of(IdxRange::new_inclusive(a..=a)),
             ['a'].as_slice()
         );
-        assert!(rt; IdxRange::new(a..a).is_empty());
+        Ok(())
+    }
+
+    #[test]
+    fn lends_all_values(rt: HostRuntime) -> Result<(), Fail> {
+        let mut arena = Arena::from_iter(rt.alloc(), ['a', 'b', 'c'])?;
         arena.as_mut_slice().reverse();
-        assert_eq!(rt; arena.get(a), Some(&'d'));
+        assert_eq!(rt; arena.get(idx(0)), Some(&'c'));
         Ok(())
     }
 
     #[test]
     fn places_many(rt: HostRuntime) -> Result<(), Fail> {
+        let mut arena: Arena<u32> = Arena::new(rt.alloc());
+        arena.alloc(5)?;
+        let range = arena.alloc_many(7..9)?;
+        assert_eq!(rt; range.len(), 2);
+        assert_eq!(rt; arena.get(range.start()), Some(&7));
+        Ok(())
+    }
+
+    #[test]
+    fn places_items_in_order(rt: HostRuntime) -> Result<(), Fail> {
         let mut arena: Arena<u32> = Arena::with_capacity(rt.alloc(), 4)?;
         assert!(rt; arena.is_empty());
         assert_eq!(rt; arena.alloc_many(0..4)?, IdxRange::new(idx(0)..idx(4)));
@@ -408,13 +464,31 @@ mod tests {
         arena.shrink_to_fit()?;
         assert_eq!(rt; arena, copy);
         assert_eq!(rt; hash_of(&arena), hash_of(&copy));
-        assert_eq!(rt; copy.len(), 2);
-        assert_eq!(rt;
-            format!(in rt.alloc(); "{copy:?}")?.as_str(),
-            "Arena { len: 2, data: [7, 8] }"
-        );
         arena.alloc(9)?;
         assert_ne!(rt; arena, copy);
+        assert_eq!(rt; copy.len(), 2);
+        Ok(())
+    }
+
+    #[test]
+    fn writes_its_values(rt: HostRuntime) -> Result<(), Fail> {
+        let arena = Arena::from_iter(rt.alloc(), 7..9)?;
+        assert_eq!(rt;
+            format!(in rt.alloc(); "{arena:?}")?.as_str(),
+            "Arena { len: 2, data: [7, 8] }"
+        );
+        Ok(())
+    }
+
+    #[test]
+    fn goes_from_both_ends(rt: HostRuntime) -> Result<(), Fail> {
+        let mut arena = Arena::new(rt.alloc());
+        let a = arena.alloc('a')?;
+        let b = arena.alloc('b')?;
+        let mut iter = arena.iter();
+        assert_eq!(rt; iter.next(), Some((a, &'a')));
+        assert_eq!(rt; iter.next_back(), Some((b, &'b')));
+        assert_eq!(rt; iter.next(), None);
         Ok(())
     }
 
@@ -426,10 +500,14 @@ mod tests {
         assert_eq!(rt; iter.size_hint(), (3, Some(3)));
         assert_eq!(rt; iter.next(), Some((idx(0), &20)));
         let mut rest = iter.clone()?;
-        assert_eq!(rt; rest.next_back(), Some((idx(2), &60)));
         assert_eq!(rt; rest.next(), Some((idx(1), &40)));
-        assert_eq!(rt; rest.next(), None);
         assert_eq!(rt; iter.next(), Some((idx(1), &40)));
+        Ok(())
+    }
+
+    #[test]
+    fn goes_over_values(rt: HostRuntime) -> Result<(), Fail> {
+        let arena = Arena::from_iter(rt.alloc(), [20, 40, 60])?;
         let mut values = arena.values();
         assert_eq!(rt; values.len(), 3);
         assert_eq!(rt; values.next_back(), Some(&60));
@@ -439,26 +517,40 @@ mod tests {
 
     #[test]
     fn writes_by_index(rt: HostRuntime) -> Result<(), Fail> {
-        let mut arena = Arena::from_iter(rt.alloc(), [20, 40, 60])?;
-        if let Some((_, value)) = arena.iter_mut().next() {
-            *value = 10;
+        let mut arena = Arena::from_iter(rt.alloc(), ['a', 'b', 'c'])?;
+        assert_eq!(rt; arena.iter_mut().len(), 3);
+        if let Some((_, letter)) = arena.iter_mut().next() {
+            *letter = 'x';
         }
-        if let Some((last, value)) = arena.iter_mut().next_back() {
-            *value = last.into_raw().into_u32();
+        if let Some((_, letter)) = arena.iter_mut().next_back() {
+            *letter = 'z';
         }
-        assert_eq!(rt; arena.get(idx(0)), Some(&10));
+        assert_eq!(rt; arena.get(idx(0)), Some(&'x'));
+        assert_eq!(rt; arena.values().next_back(), Some(&'z'));
+        Ok(())
+    }
+
+    #[test]
+    fn writes_values(rt: HostRuntime) -> Result<(), Fail> {
+        let mut arena: Arena<u32> = Arena::from_iter(rt.alloc(), [10, 40])?;
         for value in arena.values_mut() {
             *value = value.wrapping_add(1);
         }
-        assert_eq!(rt; arena.iter_mut().len(), 3);
-        assert_eq!(rt; arena.values_mut().len(), 3);
+        assert_eq!(rt; arena.values_mut().len(), 2);
         if let Some(value) = arena.values_mut().next_back() {
             *value = 7;
         }
+        assert_eq!(rt; arena.get(idx(0)), Some(&11));
+        assert_eq!(rt; arena.get(idx(1)), Some(&7));
+        Ok(())
+    }
+
+    #[test]
+    fn hands_out_values(rt: HostRuntime) -> Result<(), Fail> {
+        let arena = Arena::from_iter(rt.alloc(), [11, 41])?;
         let mut items = arena.into_iter();
         assert_eq!(rt; items.next(), Some((idx(0), 11)));
         assert_eq!(rt; items.next(), Some((idx(1), 41)));
-        assert_eq!(rt; items.next(), Some((idx(2), 7)));
         assert_eq!(rt; items.next(), None);
         Ok(())
     }

@@ -1,5 +1,6 @@
-ghost use Rattle.std.specs.Prelude.{◌≡◌, ◌++◌, Some, codes};
+ghost use Rattle.std.specs.Prelude.{◌≡◌, ◌↔◌, ◌<◌, ◌++◌, Some, IsTrue, codes};
 ghost use Rattle.std.specs.Fmt.{decimal};
+ghost use Rattle.la_arena.specs.Idx.{number_of, index_of};
 
 use std::fmt;
 use std::marker::PhantomData;
@@ -9,8 +10,6 @@ use std::marker::PhantomData;
 pub struct RawIdx(u32);
 
 impl RawIdx {
-    ghost use Rattle.la_arena.specs.Idx.{number_of};
-
     /// Constructs a [`RawIdx`] from a u32.
     pub const fn from_u32(u32: u32) -> Self
         ensures { number_of result ≡ u32 }
@@ -27,8 +26,6 @@ impl RawIdx {
 }
 
 impl From<RawIdx> for u32 {
-    ghost use Rattle.la_arena.specs.Idx.{number_of};
-
     ghost from_gives = { λ raw number. number ≡ number_of raw };
 
     fn from(raw: RawIdx) -> u32 {
@@ -37,8 +34,6 @@ impl From<RawIdx> for u32 {
 }
 
 impl From<u32> for RawIdx {
-    ghost use Rattle.la_arena.specs.Idx.{number_of};
-
     ghost from_gives = { λ number raw. number_of raw ≡ number };
 
     fn from(idx: u32) -> RawIdx {
@@ -47,8 +42,6 @@ impl From<u32> for RawIdx {
 }
 
 impl fmt::Debug for RawIdx {
-    ghost use Rattle.la_arena.specs.Idx.{number_of};
-
     ghost debug_output = { λ raw. Some (decimal (number_of raw)) };
 
     fn fmt<W: fmt::Write>(&self, f: &mut fmt::Formatter<W>) -> fmt::Result {
@@ -57,8 +50,6 @@ impl fmt::Debug for RawIdx {
 }
 
 impl fmt::Display for RawIdx {
-    ghost use Rattle.la_arena.specs.Idx.{number_of};
-
     ghost output = { λ raw. Some (decimal (number_of raw)) };
 
     fn fmt<W: fmt::Write>(&self, f: &mut fmt::Formatter<W>) -> fmt::Result {
@@ -67,6 +58,15 @@ impl fmt::Display for RawIdx {
 }
 
 /// The index of a value in an arena that holds `T`s.
+///
+/// Two indexes are equal, ordered and hashed as their numbers are.
+///
+/// ```
+/// let idx: Idx<u8> = Idx::from_raw(RawIdx::from_u32(40));
+/// assert_eq!(rt; idx.into_raw().into_u32(), 40);
+/// assert!(rt; idx < Idx::from_raw(RawIdx::from_u32(41)));
+/// assert_eq!(rt; format!(in rt.alloc(); "{idx:?}")?.as_str(), "Idx(40)");
+/// ```
 #[derive(Drop)]
 #[derive_where(Clone, Copy, PartialEq, Eq, PartialOrd, Ord, Hash)]
 pub struct Idx<T> {
@@ -75,8 +75,6 @@ pub struct Idx<T> {
 }
 
 impl<T> Idx<T> {
-    ghost use Rattle.la_arena.specs.Idx.{number_of, index_of};
-
     /// Creates a new index from a [`RawIdx`].
     pub const fn from_raw(raw: RawIdx) -> Self
         ensures { index_of result ≡ number_of raw }
@@ -96,8 +94,6 @@ impl<T> Idx<T> {
 }
 
 impl<T> fmt::Debug for Idx<T> {
-    ghost use Rattle.la_arena.specs.Idx.{index_of};
-
     ghost debug_output = { λ idx. Some (codes "Idx(" ++ decimal (index_of idx) ++ codes ")") };
 
     fn fmt<W: fmt::Write>(&self, f: &mut fmt::Formatter<W>) -> fmt::Result {
@@ -110,16 +106,42 @@ mod tests {
     use super::*;
     use std::test::Fail;
 
+    fn same<T>(left: Idx<T>, right: Idx<T>) -> bool
+        ensures { IsTrue result ↔ (left ≡ right) }
+    {
+        left == right
+    }
+
+    fn stands_before<T>(left: Idx<T>, right: Idx<T>) -> bool
+        ensures { IsTrue result ↔ (index_of left < index_of right) }
+    {
+        left < right
+    }
+
+    #[test]
+    fn holds_a_number(rt: HostRuntime) -> Result<(), Fail> {
+        let idx: Idx<u8> = Idx::from_raw(RawIdx::from_u32(40));
+        assert_eq!(rt; idx.into_raw().into_u32(), 40);
+        assert!(rt; idx < Idx::from_raw(RawIdx::from_u32(41)));
+        assert_eq!(rt; format!(in rt.alloc(); "{idx:?}")?.as_str(), "Idx(40)");
+        Ok(())
+    }
+
+    #[test]
+    fn compares_numbers(rt: HostRuntime) -> Result<(), Fail> {
+        let idx: Idx<u8> = Idx::from_raw(RawIdx::from_u32(40));
+        assert!(rt; same(idx, idx));
+        assert!(rt; !stands_before(idx, idx));
+        Ok(())
+    }
+
     #[test]
     fn writes_the_number(rt: HostRuntime) -> Result<(), Fail> {
-        let raw = RawIdx::from_u32(40);
-        let idx: Idx<u8> = Idx::from_raw(raw);
+        let raw = RawIdx::from(40);
+        assert_eq!(rt; raw, RawIdx::from_u32(40));
+        assert_eq!(rt; u32::from(raw), 40);
         assert_eq!(rt; format!(in rt.alloc(); "{raw}")?.as_str(), "40");
         assert_eq!(rt; format!(in rt.alloc(); "{raw:?}")?.as_str(), "40");
-        assert_eq!(rt; format!(in rt.alloc(); "{idx:?}")?.as_str(), "Idx(40)");
-        assert_eq!(rt; u32::from(idx.into_raw()), 40);
-        assert_eq!(rt; RawIdx::from(40), raw);
-        assert!(rt; idx < Idx::from_raw(RawIdx::from_u32(41)));
         Ok(())
     }
 }

@@ -1,6 +1,6 @@
-ghost use Rattle.std.specs.Prelude.{◌≡◌, ◌+◌, ◌<◌, ◌≤◌, ◌↔◌, ◌++◌, Some, IfSome, IsTrue, MatchOption, codes, length};
+ghost use Rattle.std.specs.Prelude.{◌≡◌, ◌+◌, ◌<◌, ◌≤◌, ◌^◌, ◌↔◌, ◌++◌, Some, IfSome, IsTrue, MatchOption, codes, length};
 ghost use Rattle.std.specs.Fmt.{decimal};
-ghost use Rattle.std.specs.Iterator.{item_count, at_most, UpTo};
+ghost use Rattle.std.specs.Iterator.{item_count, at_most, IsFinite, size, UpTo};
 ghost use Rattle.std.specs.Range.{range_inclusive_start, range_inclusive_end};
 ghost use Rattle.std.specs.Iterator.SizeHint.{IsWithinCount};
 ghost use Rattle.la_arena.specs.Idx.{index_of};
@@ -14,7 +14,17 @@ use std::ops::{Range, RangeInclusive};
 
 /// A range of densely allocated arena values, by its two numbers: that of its first index, and the one behind its last.
 ///
-/// As an iterator it gives its indexes in order.
+/// As an iterator it gives its indexes in order, from both ends. A range whose start is not below its end is empty. Where
+/// `idx(n)` is the index of number `n`:
+///
+/// ```
+/// let mut range = IdxRange::new(idx(3)..idx(8));
+/// assert_eq!(rt; range.next(), Some(idx(3)));
+/// assert_eq!(rt; range.next_back(), Some(idx(7)));
+/// assert_eq!(rt; range.nth(1), Some(idx(5)));
+/// assert_eq!(rt; range.start(), idx(6));
+/// assert_eq!(rt; range.end(), idx(7));
+/// ```
 #[derive(Drop)]
 #[derive_where(Clone, PartialEq, Eq)]
 pub struct IdxRange<T> {
@@ -85,7 +95,8 @@ impl<T> IdxRange<T> {
     /// Returns how many indexes are in the range, without walking over them.
     #[tactic(auto, using(crate::proofs::Numbers::numbers_of))]
     pub fn count(self) -> usize
-        ensures { result ≡ length (numbers self) }
+        ensures value { result ≡ length (numbers self) }
+        ensures bound { result < 2 ^ 32 }
     {
         self.len()
     }
@@ -159,7 +170,11 @@ impl<T> DoubleEndedIterator for IdxRange<T> {
 
 impl<T> ExactSizeIterator for IdxRange<T> {
     #[tactic(auto, using(crate::proofs::Numbers::numbers_of))]
-    fn len(&self) -> usize {
+    fn len(&self) -> usize
+        ensures finite { IsFinite (item_count numbers self.now) }
+        ensures value { result ≡ size (item_count numbers self.now) }
+        ensures bound { result < 2 ^ 32 }
+    {
         if self.end <= self.start {
             return 0;
         }
@@ -188,9 +203,18 @@ mod tests {
 
     #[test]
     fn gives_its_indexes(rt: HostRuntime) -> Result<(), Fail> {
+        let mut range = IdxRange::new(idx(3)..idx(8));
+        assert_eq!(rt; range.next(), Some(idx(3)));
+        assert_eq!(rt; range.next_back(), Some(idx(7)));
+        assert_eq!(rt; range.nth(1), Some(idx(5)));
+        assert_eq!(rt; range.start(), idx(6));
+        assert_eq!(rt; range.end(), idx(7));
+        Ok(())
+    }
+
+    #[test]
+    fn counts_its_indexes(rt: HostRuntime) -> Result<(), Fail> {
         let range = IdxRange::new(idx(3)..idx(8));
-        assert_eq!(rt; range.start(), idx(3));
-        assert_eq!(rt; range.end(), idx(8));
         assert_eq!(rt; range.size_hint(), (5, Some(5)));
         assert_eq!(rt; range.clone()?.count(), 5);
         assert_eq!(rt; range.clone()?.last(), Some(idx(7)));
@@ -198,17 +222,18 @@ mod tests {
             format!(in rt.alloc(); "{range:?}")?.as_str(),
             "IdxRange(3..8)"
         );
-        let mut rest = range.clone()?;
-        assert_eq!(rt; rest.next(), Some(idx(3)));
-        assert_eq!(rt; rest.next_back(), Some(idx(7)));
-        assert_eq!(rt; rest.nth(1), Some(idx(5)));
-        assert_eq!(rt; rest, IdxRange::new(idx(6)..idx(7)));
-        assert_eq!(rt; rest.nth(1), None);
-        assert_eq!(rt; rest, IdxRange::new(idx(7)..idx(7)));
-        assert_eq!(rt; rest.next(), None);
-        assert_eq!(rt; rest.next_back(), None);
-        assert_eq!(rt; rest.last(), None);
         assert_ne!(rt; range, IdxRange::new(idx(3)..idx(7)));
+        Ok(())
+    }
+
+    #[test]
+    fn ends_past_its_last_index(rt: HostRuntime) -> Result<(), Fail> {
+        let mut range = IdxRange::new(idx(6)..idx(7));
+        assert_eq!(rt; range.nth(1), None);
+        assert_eq!(rt; range, IdxRange::new(idx(7)..idx(7)));
+        assert_eq!(rt; range.next(), None);
+        assert_eq!(rt; range.next_back(), None);
+        assert_eq!(rt; range.last(), None);
         Ok(())
     }
 

@@ -14,7 +14,7 @@ pub use arena::{Arena, ArenaError};
 pub use idx::{Idx, RawIdx};
 pub use idx_range::IdxRange;
 pub use iter::{IntoIter, Iter, IterMut, Values, ValuesMut};
-pub use laws::placing_keeps;
+pub use laws::{indexes_are_numbers, placing_keeps, raw_indexes_are_numbers};
 pub use map::{
     ArenaMap, ArenaMapIter, Entry, InsertRefused, MapIter, MapIterMut, MapValues, MapValuesMut,
     OccupiedEntry, VacantEntry,

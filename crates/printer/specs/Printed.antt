@@ -61,7 +61,7 @@ abbrev pub bound_text : Option Name → List ℕ
 bound_text (Some name) = name_text name
 bound_text None = []
 
--- the text of an expression. A tree that is not whole, as no place of a placed store has, is printed too: as an absent
+-- the text of an expression. A tree that is not whole, as no id of a store without dangling ids has, is printed too: as an absent
 -- expression, and with an empty name
 abbrev mutual
   pub text_of : Tree → List ℕ

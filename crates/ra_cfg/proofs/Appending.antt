@@ -16,7 +16,7 @@ use Rattle.ra_cfg.specs.contracts.cfg_expr.CfgAtomClone.TheImpl as atom_clone
 use Rattle.ra_cfg.specs.declared.cfg_expr.CfgAtom.{CfgAtom}
 use Rattle.ra_cfg.specs.declared.cfg_expr.CfgAtom.TheVariants.{Flag, KeyValue}
 use Rattle.ra_cfg.specs.AtomOrder.{atom_total, same_atom, same_text}
-use Rattle.ra_cfg.specs.Options.{Options, atom_cmp, true_flag, with_answers, appended, IsSettable}
+use Rattle.ra_cfg.specs.Options.{OptionSet, atom_cmp, true_flag, with_answers, appended, IsSettable}
 use Rattle.ra_cfg.proofs.OptionSets.{options, kept_answer, only_other}
 use Rattle.ra_cfg.proofs.Kept.{answers_kept}
 
@@ -73,7 +73,7 @@ settable_union s t is so = record {
 }
 
 -- what is kept after copies take in the other's is what appending leaves
-pub options_of_append : (old copy other new : kept.BTreeSet CfgAtom) (olds copies others news : kept_map.BTreeMap (List ℕ) Bool) (before more : Options) →
+pub options_of_append : (old copy other new : kept.BTreeSet CfgAtom) (olds copies others news : kept_map.BTreeMap (List ℕ) Bool) (before more : OptionSet) →
     copy.keys ≡ old.keys → kept.InsertsAll atom_cmp copy other.keys new →
     copies.entries ≡ olds.entries → kept_map.InsertsAll (slice_cmp nat_cmp) copies others.entries news → IsStrictlySortedBy (slice_cmp nat_cmp) (keys_of others.entries) →
     options (set.from_list old.keys) (finite.from_entries olds.entries) ≡ before → options (set.from_list other.keys) (finite.from_entries others.entries) ≡ more →

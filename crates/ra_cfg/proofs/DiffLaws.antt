@@ -5,7 +5,7 @@ use Rattle.std.specs.Cmp.{Equal-is}
 use Rattle.std.specs.FinSet as set
 use Rattle.ra_cfg.specs.declared.cfg_expr.CfgAtom.{CfgAtom}
 use Rattle.ra_cfg.specs.AtomOrder.{atom_total, same_atom}
-use Rattle.ra_cfg.specs.Options.{Options, atom_cmp, is_reserved, name_of, with_atom, with_free, with_all, without_free, without_all}
+use Rattle.ra_cfg.specs.Options.{OptionSet, atom_cmp, is_reserved, name_of, with_atom, with_free, with_all, without_free, without_all}
 use Rattle.ra_cfg.specs.Diff.{Diff, IsDiff, stands_in, with_diff}
 use Rattle.ra_cfg.proofs.OptionSets.{options}
 
@@ -13,7 +13,7 @@ use Rattle.ra_cfg.proofs.OptionSets.{options}
 hits : CfgAtom → CfgAtom → Bool
 hits q a = not (is_reserved (name_of a)) && eq_by_cmp atom_cmp q a
 
-contains-with_free : (o : Options) (a q : CfgAtom) → set.contains (with_free o a).atoms q ≡ (hits q a || set.contains o.atoms q)
+contains-with_free : (o : OptionSet) (a q : CfgAtom) → set.contains (with_free o a).atoms q ≡ (hits q a || set.contains o.atoms q)
 unfolding hits
 contains-with_free o a q =
     elim (is_reserved (name_of a)) as (λ b. set.contains (if b then o else with_atom o a).atoms q ≡ ((not b && eq_by_cmp atom_cmp q a) || set.contains o.atoms q)) [
@@ -21,7 +21,7 @@ contains-with_free o a q =
       | false ↦ set.contains-insert atom_total o.atoms a q
     ]
 
-contains-without_free : (o : Options) (a q : CfgAtom) → set.contains (without_free o a).atoms q ≡ (not (hits q a) && set.contains o.atoms q)
+contains-without_free : (o : OptionSet) (a q : CfgAtom) → set.contains (without_free o a).atoms q ≡ (not (hits q a) && set.contains o.atoms q)
 unfolding hits
 contains-without_free o a q =
     elim (is_reserved (name_of a)) as (λ b. set.contains (if b then o else options (set.remove o.atoms a) o.versions).atoms q ≡ (not (not b && eq_by_cmp atom_cmp q a) && set.contains o.atoms q)) [
@@ -63,35 +63,35 @@ moved_and true false c = refl
 moved_and false true c = refl
 moved_and false false c = refl
 
-with_all_free : (o : Options) (atoms : List CfgAtom) (q : CfgAtom) → is_reserved (name_of q) ≡ false → set.contains (with_all o atoms).atoms q ≡ (stands_in q atoms || set.contains o.atoms q)
+with_all_free : (o : OptionSet) (atoms : List CfgAtom) (q : CfgAtom) → is_reserved (name_of q) ≡ false → set.contains (with_all o atoms).atoms q ≡ (stands_in q atoms || set.contains o.atoms q)
 with_all_free o [] q free = refl
 with_all_free o (a ∷ rest) q free =
     with_all_free (with_free o a) rest q free
     ∙ ap (λ b. stands_in q rest || b) (contains-with_free o a q ∙ ap (λ b. b || set.contains o.atoms q) (hit q a free))
     ∙ moved_or (eq_by_cmp atom_cmp q a) (stands_in q rest) (set.contains o.atoms q)
 
-without_all_free : (o : Options) (atoms : List CfgAtom) (q : CfgAtom) → is_reserved (name_of q) ≡ false → set.contains (without_all o atoms).atoms q ≡ (not (stands_in q atoms) && set.contains o.atoms q)
+without_all_free : (o : OptionSet) (atoms : List CfgAtom) (q : CfgAtom) → is_reserved (name_of q) ≡ false → set.contains (without_all o atoms).atoms q ≡ (not (stands_in q atoms) && set.contains o.atoms q)
 without_all_free o [] q free = refl
 without_all_free o (a ∷ rest) q free =
     without_all_free (without_free o a) rest q free
     ∙ ap (λ b. not (stands_in q rest) && b) (contains-without_free o a q ∙ ap (λ b. not b && set.contains o.atoms q) (hit q a free))
     ∙ moved_and (eq_by_cmp atom_cmp q a) (stands_in q rest) (set.contains o.atoms q)
 
-with_all_reserved : (o : Options) (atoms : List CfgAtom) (q : CfgAtom) → is_reserved (name_of q) ≡ true → set.contains (with_all o atoms).atoms q ≡ set.contains o.atoms q
+with_all_reserved : (o : OptionSet) (atoms : List CfgAtom) (q : CfgAtom) → is_reserved (name_of q) ≡ true → set.contains (with_all o atoms).atoms q ≡ set.contains o.atoms q
 with_all_reserved o [] q reserved = refl
 with_all_reserved o (a ∷ rest) q reserved = with_all_reserved (with_free o a) rest q reserved ∙ contains-with_free o a q ∙ ap (λ b. b || set.contains o.atoms q) (missed q a reserved)
 
-without_all_reserved : (o : Options) (atoms : List CfgAtom) (q : CfgAtom) → is_reserved (name_of q) ≡ true → set.contains (without_all o atoms).atoms q ≡ set.contains o.atoms q
+without_all_reserved : (o : OptionSet) (atoms : List CfgAtom) (q : CfgAtom) → is_reserved (name_of q) ≡ true → set.contains (without_all o atoms).atoms q ≡ set.contains o.atoms q
 without_all_reserved o [] q reserved = refl
 without_all_reserved o (a ∷ rest) q reserved = without_all_reserved (without_free o a) rest q reserved ∙ contains-without_free o a q ∙ ap (λ b. not b && set.contains o.atoms q) (missed q a reserved)
 
-with_all_versions : (o : Options) (atoms : List CfgAtom) → (with_all o atoms).versions ≡ o.versions
+with_all_versions : (o : OptionSet) (atoms : List CfgAtom) → (with_all o atoms).versions ≡ o.versions
 with_all_versions o [] = refl
 with_all_versions o (a ∷ rest) =
     with_all_versions (with_free o a) rest
     ∙ elim (is_reserved (name_of a)) as (λ b. (if b then o else with_atom o a).versions ≡ o.versions) [ true ↦ refl | false ↦ refl ]
 
-without_all_versions : (o : Options) (atoms : List CfgAtom) → (without_all o atoms).versions ≡ o.versions
+without_all_versions : (o : OptionSet) (atoms : List CfgAtom) → (without_all o atoms).versions ≡ o.versions
 without_all_versions o [] = refl
 without_all_versions o (a ∷ rest) =
     without_all_versions (without_free o a) rest
@@ -105,7 +105,7 @@ in_one false false true apart = refl
 in_one false false false apart = refl
 
 -- an atom whose name or key is not reserved
-pub diff_of_free : (o : Options) (diff : Diff) (a : CfgAtom) → IsDiff diff → is_reserved (name_of a) ≡ false →
+pub diff_of_free : (o : OptionSet) (diff : Diff) (a : CfgAtom) → IsDiff diff → is_reserved (name_of a) ≡ false →
     set.contains (with_diff o diff).atoms a ≡ (stands_in a diff.enabled || (set.contains o.atoms a && not (stands_in a diff.disabled)))
 diff_of_free o diff a is free =
     without_all_free (with_all o diff.enabled) diff.disabled a free
@@ -113,9 +113,9 @@ diff_of_free o diff a is free =
     ∙ in_one (stands_in a diff.enabled) (stands_in a diff.disabled) (set.contains o.atoms a) (is.apart a)
 
 -- any other stays as it was
-pub diff_of_reserved : (o : Options) (diff : Diff) (a : CfgAtom) → is_reserved (name_of a) ≡ true → set.contains (with_diff o diff).atoms a ≡ set.contains o.atoms a
+pub diff_of_reserved : (o : OptionSet) (diff : Diff) (a : CfgAtom) → is_reserved (name_of a) ≡ true → set.contains (with_diff o diff).atoms a ≡ set.contains o.atoms a
 diff_of_reserved o diff a reserved = without_all_reserved (with_all o diff.enabled) diff.disabled a reserved ∙ with_all_reserved o diff.enabled a reserved
 
 -- the answers stay
-pub diff_of_versions : (o : Options) (diff : Diff) → (with_diff o diff).versions ≡ o.versions
+pub diff_of_versions : (o : OptionSet) (diff : Diff) → (with_diff o diff).versions ≡ o.versions
 diff_of_versions o diff = without_all_versions (with_all o diff.enabled) diff.disabled ∙ with_all_versions o diff.enabled

@@ -13,7 +13,7 @@ use Rattle.std.specs.FinSet as set
 use Rattle.std.specs.FinMap as finite
 use Rattle.std.specs.FinMap.Entries.{below_all, same_entries}
 use Rattle.ra_cfg.specs.declared.cfg_expr.CfgAtom.{CfgAtom}
-use Rattle.ra_cfg.specs.Options.{Options, atom_cmp, Lists}
+use Rattle.ra_cfg.specs.Options.{OptionSet, atom_cmp, Lists}
 use Rattle.ra_cfg.specs.AtomOrder.{atom_total, same_atom, same_text}
 
 both : (a b : Bool) → T a → T b → T (a && b)
@@ -72,7 +72,7 @@ pub answers_kept : (answers : List (List ℕ × Bool)) → IsStrictlySortedBy (s
 answers_kept = entries_kept nat_list_cmp_total same_text
 
 -- atoms in order are each once in their set
-pub lists_kept : (keys items : List CfgAtom) (o : Options) → IsStrictlySortedBy atom_cmp keys → items ≡ keys → set.from_list keys ≡ o.atoms → Lists o.atoms items
+pub lists_kept : (keys items : List CfgAtom) (o : OptionSet) → IsStrictlySortedBy atom_cmp keys → items ≡ keys → set.from_list keys ≡ o.atoms → Lists o.atoms items
 lists_kept keys items o is same seen = record {
   each = ap (λ atoms. set.from_list {R = atom_cmp} atoms) same ∙ seen;
   once = subst (IsDistinct (eq_by_cmp atom_cmp)) (sym same) (IsDistinct-from_sorted atom_cmp keys is);

@@ -13,10 +13,10 @@ use Rattle.std.specs.FinMap as finite
 use Rattle.ra_cfg.specs.declared.cfg_expr.CfgAtom.{CfgAtom}
 use Rattle.ra_cfg.specs.declared.cfg_expr.CfgAtom.TheVariants.{Flag}
 use Rattle.ra_cfg.specs.AtomOrder.{atom_total, same_atom, same_text}
-use Rattle.ra_cfg.specs.Options.{Options, atom_cmp, true_flag, name_of, with_atom, with_free, with_all, IsReserved, IsSettable}
+use Rattle.ra_cfg.specs.Options.{OptionSet, atom_cmp, true_flag, name_of, with_atom, with_free, with_all, IsReserved, IsSettable}
 
 -- options, of their parts
-abbrev pub options : set.FinSet atom_cmp → finite.FinMap (slice_cmp nat_cmp) Bool → Options
+abbrev pub options : set.FinSet atom_cmp → finite.FinMap (slice_cmp nat_cmp) Bool → OptionSet
 options atoms versions = record { atoms = atoms; versions = versions }
 
 false_true : false ≡ true → ⊥
@@ -79,7 +79,7 @@ pub settable_later : (old new : kept.BTreeSet CfgAtom) (added : CfgAtom) → (Is
 settable_later old new added free updates is = subst IsSettable (sym (set_of_insert old new added updates)) (settable_insert (set.from_list old.keys) added is free)
 
 -- options are the ones before with one more atom, where the atoms that are kept are
-pub options_of_insert : (old new : kept.BTreeSet CfgAtom) (versions : finite.FinMap (slice_cmp nat_cmp) Bool) (before : Options) (a : CfgAtom) → kept.Updates atom_cmp old new a true →
+pub options_of_insert : (old new : kept.BTreeSet CfgAtom) (versions : finite.FinMap (slice_cmp nat_cmp) Bool) (before : OptionSet) (a : CfgAtom) → kept.Updates atom_cmp old new a true →
     options (set.from_list old.keys) versions ≡ before → options (set.from_list new.keys) versions ≡ with_atom before a
 options_of_insert old new versions before a updates is = ap (λ atoms. options atoms versions) (set_of_insert old new a updates) ∙ ap (λ o. with_atom o a) is
 
@@ -103,7 +103,7 @@ map_of_insert old new text answer updates =
     ∙ sym (finite.get-insert nat_list_cmp_total (finite.from_entries old.entries) text answer q))
 
 -- atoms that are put in one after the other, and one more
-pub with_all_last : (o : Options) (atoms : List CfgAtom) (a : CfgAtom) → with_all o (atoms ++ a ∷ []) ≡ with_free (with_all o atoms) a
+pub with_all_last : (o : OptionSet) (atoms : List CfgAtom) (a : CfgAtom) → with_all o (atoms ++ a ∷ []) ≡ with_free (with_all o atoms) a
 with_all_last o [] a = refl
 with_all_last o (b ∷ rest) a = with_all_last (with_free o b) rest a
 
@@ -143,6 +143,6 @@ pub settable_less : (old new : kept.BTreeSet CfgAtom) (taken : CfgAtom) → (IsR
 settable_less old new taken free updates is = subst IsSettable (sym (set_of_remove old new taken updates)) (settable_remove (set.from_list old.keys) taken is free)
 
 -- options are the ones before without the atom, where the atoms that are kept are
-pub options_of_remove : (old new : kept.BTreeSet CfgAtom) (versions : finite.FinMap (slice_cmp nat_cmp) Bool) (before : Options) (a : CfgAtom) → kept.Updates atom_cmp old new a false →
+pub options_of_remove : (old new : kept.BTreeSet CfgAtom) (versions : finite.FinMap (slice_cmp nat_cmp) Bool) (before : OptionSet) (a : CfgAtom) → kept.Updates atom_cmp old new a false →
     options (set.from_list old.keys) versions ≡ before → options (set.from_list new.keys) versions ≡ options (set.remove before.atoms a) before.versions
-options_of_remove old new versions before a updates is = ap (λ atoms. options atoms versions) (set_of_remove old new a updates) ∙ ap (λ (o : Options). options (set.remove o.atoms a) o.versions) is
+options_of_remove old new versions before a updates is = ap (λ atoms. options atoms versions) (set_of_remove old new a updates) ∙ ap (λ (o : OptionSet). options (set.remove o.atoms a) o.versions) is

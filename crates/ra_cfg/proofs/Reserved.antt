@@ -3,7 +3,7 @@ use Rattle.std.proofs.Common.{◌≡◌, ℕ, Bool, true, false, ◌||◌, List,
 use Rattle.std.specs.Str.{bytes_eq}
 use Rattle.std.proofs.lemmas.Slice.Eq.{bytes_eq-Decides}
 use Rattle.ra_cfg.specs.declared.cfg_expr.CfgAtom.{CfgAtom}
-use Rattle.ra_cfg.specs.Options.{Options, IsReserved, is_reserved, name_of, with_atom, with_free, without_free}
+use Rattle.ra_cfg.specs.Options.{OptionSet, IsReserved, is_reserved, name_of, with_atom, with_free, without_free}
 use Rattle.std.specs.FinSet as set
 use Rattle.ra_cfg.proofs.OptionSets.{options}
 
@@ -33,17 +33,17 @@ free_is name free = both_false (bytes_eq name (codes "true")) (bytes_eq name (co
     (λ e. free (inr ((bytes_eq-Decides name (codes "false")).0 e)))
 
 -- an atom with a reserved name or key changes nothing
-pub kept_free : (o : Options) (a : CfgAtom) → IsReserved (name_of a) → with_free o a ≡ o
+pub kept_free : (o : OptionSet) (a : CfgAtom) → IsReserved (name_of a) → with_free o a ≡ o
 kept_free o a reserved = rw (reserved_is (name_of a) reserved) refl
 
 -- another atom is put in
-pub new_free : (o : Options) (a : CfgAtom) → (IsReserved (name_of a) → ⊥) → with_free o a ≡ with_atom o a
+pub new_free : (o : OptionSet) (a : CfgAtom) → (IsReserved (name_of a) → ⊥) → with_free o a ≡ with_atom o a
 new_free o a free = rw (free_is (name_of a) free) refl
 
 -- an atom with a reserved name or key stays
-pub stays_free : (o : Options) (a : CfgAtom) → IsReserved (name_of a) → without_free o a ≡ o
+pub stays_free : (o : OptionSet) (a : CfgAtom) → IsReserved (name_of a) → without_free o a ≡ o
 stays_free o a reserved = rw (reserved_is (name_of a) reserved) refl
 
 -- another atom is taken out
-pub gone_free : (o : Options) (a : CfgAtom) → (IsReserved (name_of a) → ⊥) → without_free o a ≡ options (set.remove o.atoms a) o.versions
+pub gone_free : (o : OptionSet) (a : CfgAtom) → (IsReserved (name_of a) → ⊥) → without_free o a ≡ options (set.remove o.atoms a) o.versions
 gone_free o a free = rw (free_is (name_of a) free) refl

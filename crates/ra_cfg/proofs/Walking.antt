@@ -229,9 +229,12 @@ not_both false true e = absurd cc
 not_both false false e = refl
 
 -- what is left of both lists makes a diff
-pub apart_is_diff : (xs ys : List CfgAtom) → IsStrictlySortedBy atom_cmp xs → IsStrictlySortedBy atom_cmp ys → IsDiff (record { enabled = only xs ys; disabled = only ys xs })
+apart_is_diff : (xs ys : List CfgAtom) → IsStrictlySortedBy atom_cmp xs → IsStrictlySortedBy atom_cmp ys → IsDiff (record { enabled = only xs ys; disabled = only ys xs })
 apart_is_diff xs ys is so = record {
   enabled = sorted_only xs ys is so;
   disabled = sorted_only ys xs so is;
   apart = λ a e. stands_in-only ys xs so is a ∙ not_both (stands_in a xs) (stands_in a ys) (sym (stands_in-only xs ys is so a) ∙ e);
 }
+
+pub left_is_diff : (xs ys enabled disabled : List CfgAtom) → IsStrictlySortedBy atom_cmp xs → IsStrictlySortedBy atom_cmp ys → enabled ≡ only xs ys → disabled ≡ only ys xs → IsDiff (record { enabled = enabled; disabled = disabled })
+left_is_diff xs ys enabled disabled is so on off = subst IsDiff (λ i. record { enabled = sym on i; disabled = sym off i }) (apart_is_diff xs ys is so)

@@ -1,5 +1,5 @@
 -- A diff names atoms to enable and atoms to disable.
-use Rattle.std.specs.Prelude.{◌≡◌, Bool, true, false, ◌&&◌, List, [], ◌∷◌, refl}
+use Rattle.std.specs.Prelude.{◌≡◌, Bool, true, false, not, ◌&&◌, List, [], ◌∷◌, refl}
 use Rattle.std.proofs.Common.{ap}
 use Rattle.std.specs.Bool.{Decides}
 use Rattle.std.specs.Cmp.{IsEquivalence, decided}
@@ -13,7 +13,7 @@ use Rattle.ra_cfg.specs.contracts.cfg_expr.CfgAtomPartialEq.TheImpl as atom_eq
 use Rattle.ra_cfg.specs.declared.cfg_expr.CfgAtom.{CfgAtom}
 use Rattle.ra_cfg.specs.AtomOrder.{atom_eq_is}
 use Rattle.ra_cfg.specs.SameOptions.{both_decided}
-use Rattle.ra_cfg.specs.Options.{Options, atom_cmp, with_all, without_all}
+use Rattle.ra_cfg.specs.Options.{OptionSet, atom_cmp, with_all, without_all}
 
 -- the atoms to enable and those to disable
 pub record Diff : Type 0 where
@@ -26,12 +26,16 @@ diff_code =
     code_by (List CfgAtom × List CfgAtom) (coded× (coded_list atom.the_row.coded) (coded_list atom.the_row.coded)) (λ d. (d.enabled, d.disabled)) (λ p. record { enabled = p.0; disabled = p.1 }) (λ _. refl)
 
 -- what a diff makes of options: the atoms to enable are put in, and those to disable are taken out
-abbrev pub with_diff : Options → Diff → Options
+abbrev pub with_diff : OptionSet → Diff → OptionSet
 with_diff o diff = without_all (with_all o diff.enabled) diff.disabled
 
 -- whether an atom stands in a list
 abbrev pub stands_in : CfgAtom → List CfgAtom → Bool
 stands_in a atoms = list_any (eq_by_cmp atom_cmp a) atoms
+
+-- a list has exactly the atoms that stand in `first` and not in `second`
+abbrev pub HasOnly : List CfgAtom → List CfgAtom → List CfgAtom → Type 0
+HasOnly first second atoms = (a : CfgAtom) → stands_in a atoms ≡ (stands_in a first && not (stands_in a second))
 
 -- a diff has its atoms in order, each once, and none in both lists
 pub record IsDiff (diff : Diff) : Type 0 where

@@ -3,10 +3,12 @@ use Rattle.std.specs.Prelude.{◌≡◌, ℕ, Bool, true, ◌&&◌, ◌++◌, Li
 use Rattle.std.proofs.Common.{ap}
 use Rattle.std.specs.Bool.{Decides}
 use Rattle.std.specs.Cmp.{IsEquivalence, decided}
-use Rattle.std.specs.Cmp.Lexicographic.{pointwise, pointwise_decides}
+use Rattle.std.specs.Cmp.Lexicographic.{pointwise, pointwise_decides, slice_cmp}
 use Rattle.std.specs.Coded.{Coded, code_by, coded×, coded_list, coded_ℕ, coded_bool}
 use Rattle.std.specs.Hash as fed
 use Rattle.std.specs.List.Sorted.{IsStrictlySortedBy}
+use Rattle.std.specs.Map.{keys_of}
+use Rattle.std.specs.Ordering.{nat_cmp}
 use Rattle.std.specs.FinSet as set
 use Rattle.std.specs.FinMap as map
 use Rattle.ra_cfg.specs.contracts.cfg_expr.CfgAtom as atom
@@ -14,7 +16,7 @@ use Rattle.ra_cfg.specs.contracts.cfg_expr.CfgAtomPartialEq.TheImpl as atom_eq
 use Rattle.ra_cfg.specs.contracts.cfg_expr.CfgAtomHash.TheImpl as atom_hash
 use Rattle.ra_cfg.specs.declared.cfg_expr.CfgAtom.{CfgAtom}
 use Rattle.ra_cfg.specs.AtomOrder.{atom_eq_is}
-use Rattle.ra_cfg.specs.Options.{Options, atom_cmp}
+use Rattle.ra_cfg.specs.Options.{OptionSet, IsSettable, atom_cmp}
 use Rattle.ra_cfg.specs.SameOptions.{same_answer, same_answer_is, both_decided}
 
 -- the atoms and the answers, as lists
@@ -27,8 +29,15 @@ abbrev pub listing_code : Coded Listing
 listing_code =
     code_by (List CfgAtom × List (List ℕ × Bool)) (coded× (coded_list atom.the_row.coded) (coded_list (coded× (coded_list coded_ℕ) coded_bool))) (λ l. (l.atoms, l.versions)) (λ p. record { atoms = p.0; versions = p.1 }) (λ _. refl)
 
+-- a listing is of some options: its atoms are in order, each once, the flag `true` is among them and no other reserved atom, and its
+-- answers stand in the order of their texts
+pub record IsOfOptions (listing : Listing) : Type 0 where
+  pub sorted : IsStrictlySortedBy atom_cmp listing.atoms
+  pub settable : IsSettable (set.from_list listing.atoms)
+  pub answers : IsStrictlySortedBy (slice_cmp nat_cmp) (keys_of listing.versions)
+
 -- a listing of options has their atoms in order, and their answers in the order of the texts
-pub record IsListing (o : Options) (listing : Listing) : Type 0 where
+pub record IsListing (o : OptionSet) (listing : Listing) : Type 0 where
   pub sorted : IsStrictlySortedBy atom_cmp listing.atoms
   pub atoms : set.from_list listing.atoms ≡ o.atoms
   pub versions : listing.versions ≡ map.entries o.versions

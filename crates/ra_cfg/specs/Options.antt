@@ -18,12 +18,12 @@ abbrev pub atom_cmp : CfgAtom → CfgAtom → Ordering
 atom_cmp = (order.ghosts).cmp
 
 -- which atoms are set, and which versions have an answer
-pub record Options : Type 0 where
+pub record OptionSet : Type 0 where
   pub atoms : set.FinSet atom_cmp
   pub versions : map.FinMap (slice_cmp nat_cmp) Bool
 
 -- options are stored as the pair of their parts
-abbrev pub options_code : Coded Options
+abbrev pub options_code : Coded OptionSet
 options_code =
     code_by (set.FinSet atom_cmp × map.FinMap (slice_cmp nat_cmp) Bool) (coded× (set.code atom.the_row.coded) (map.code (coded_list coded_ℕ) coded_bool)) (λ o. (o.atoms, o.versions)) (λ p. record { atoms = p.0; versions = p.1 }) (λ _. refl)
 
@@ -46,11 +46,11 @@ pub record IsSettable (atoms : set.FinSet atom_cmp) : Type 0 where
   pub no_other : (a : CfgAtom) → set.contains atoms a ≡ true → IsReserved (name_of a) → a ≡ true_flag
 
 -- the options with one more atom
-abbrev pub with_atom : Options → CfgAtom → Options
+abbrev pub with_atom : OptionSet → CfgAtom → OptionSet
 with_atom o a = record { atoms = set.insert o.atoms a; versions = o.versions }
 
 -- the options with the flag `true` alone, and no version that has an answer
-abbrev pub only_true : Options
+abbrev pub only_true : OptionSet
 only_true = record { atoms = set.insert set.empty true_flag; versions = map.empty }
 
 -- whether a name is reserved
@@ -58,33 +58,33 @@ abbrev pub is_reserved : List ℕ → Bool
 is_reserved name = bytes_eq name (codes "true") || bytes_eq name (codes "false")
 
 -- the options with this flag put in: a reserved name changes nothing
-abbrev pub with_flag : Options → List ℕ → Options
+abbrev pub with_flag : OptionSet → List ℕ → OptionSet
 with_flag o name = if is_reserved name then o else with_atom o (Flag name)
 
 -- the options with this atom put in: one with a reserved name or key changes nothing
-abbrev pub with_free : Options → CfgAtom → Options
+abbrev pub with_free : OptionSet → CfgAtom → OptionSet
 with_free o a = if is_reserved (name_of a) then o else with_atom o a
 
 -- the options with these atoms put in, one after the other
-abbrev pub with_all : Options → List CfgAtom → Options
+abbrev pub with_all : OptionSet → List CfgAtom → OptionSet
 with_all o [] = o
 with_all o (a ∷ rest) = with_all (with_free o a) rest
 
 -- the options without this atom: one with a reserved name or key stays
-abbrev pub without_free : Options → CfgAtom → Options
+abbrev pub without_free : OptionSet → CfgAtom → OptionSet
 without_free o a = if is_reserved (name_of a) then o else (record { atoms = set.remove o.atoms a; versions = o.versions })
 
 -- the options without these atoms
-abbrev pub without_all : Options → List CfgAtom → Options
+abbrev pub without_all : OptionSet → List CfgAtom → OptionSet
 without_all o [] = o
 without_all o (a ∷ rest) = without_all (without_free o a) rest
 
 -- `new` is what is left where these atoms are put into `old`
-abbrev pub TakesIn : Options → List CfgAtom → Options → Type 0
+abbrev pub TakesIn : OptionSet → List CfgAtom → OptionSet → Type 0
 TakesIn old atoms new = new ≡ with_all old atoms
 
 -- the options with this answer for a version
-abbrev pub with_answer : Options → List ℕ → Bool → Options
+abbrev pub with_answer : OptionSet → List ℕ → Bool → OptionSet
 with_answer o text answer = record { atoms = o.atoms; versions = map.insert o.versions text answer }
 
 -- a list has each atom of a set once
@@ -111,5 +111,5 @@ with_answers versions [] = versions
 with_answers versions (e ∷ rest) = with_answers (map.insert versions e.0 e.1) rest
 
 -- the atoms of both options, and the answers of both, those of the second over those of the first
-abbrev pub appended : Options → Options → Options
+abbrev pub appended : OptionSet → OptionSet → OptionSet
 appended o other = record { atoms = set.union o.atoms other.atoms; versions = with_answers o.versions (map.entries other.versions) }

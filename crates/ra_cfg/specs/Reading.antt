@@ -1,5 +1,5 @@
--- Under a set of atoms and a map of versions a predicate reads true, false or nothing.
-use Rattle.std.specs.Prelude.{◌≡◌, ℕ, Bool, true, false, not, if◌then◌else◌, List, [], ◌∷◌, Option, Some, None}
+-- Under a set of atoms and a map of versions a predicate evaluates to `Some true`, `Some false` or `None`: it reads true, false or nothing.
+use Rattle.std.specs.Prelude.{◌≡◌, ℕ, Bool, true, false, not, if◌then◌else◌, List, [], ◌∷◌, map, Option, Some, None}
 use Rattle.std.specs.Option.{unwrap_or, option_map}
 use Rattle.std.specs.List.{list_any, flat_map, AllByRecursion}
 use Rattle.std.specs.FinSet as set
@@ -7,7 +7,7 @@ use Rattle.std.specs.FinMap as finite
 use Rattle.ra_cfg.specs.declared.cfg_expr.CfgAtom.{CfgAtom}
 use Rattle.ra_cfg.specs.declared.cfg_expr.CfgExpr.{CfgExpr, CfgExpr-F}
 use Rattle.ra_cfg.specs.declared.cfg_expr.CfgExpr.TheFolds.{fold-CfgExpr}
-use Rattle.ra_cfg.specs.Options.{Options}
+use Rattle.ra_cfg.specs.Options.{OptionSet}
 
 -- whether a reading is true
 abbrev pub reads_true : Option Bool → Bool
@@ -52,11 +52,11 @@ abbrev pub reading : (CfgAtom → Bool) → (List ℕ → Option Bool) → CfgEx
 reading holds answer = fold-CfgExpr (Option Bool) (read_step holds answer)
 
 -- what a predicate reads under options
-abbrev pub reads_under : Options → CfgExpr → Option Bool
+abbrev pub reads_under : OptionSet → CfgExpr → Option Bool
 reads_under options expr = reading (set.contains options.atoms) (finite.get options.versions) expr
 
 -- a list of predicates is off where one of them, each taken by itself, reads false
-abbrev pub is_off : Options → List CfgExpr → Bool
+abbrev pub is_off : OptionSet → List CfgExpr → Bool
 is_off options predicates = list_any (λ expr. reads_false (reads_under options expr)) predicates
 
 -- the atoms of a predicate, of those of its parts
@@ -88,3 +88,14 @@ versions_of = fold-CfgExpr (List (List ℕ)) versions_step
 -- each answer that can come to one of these questions is the one of the function
 abbrev pub Agrees : {Q A : Type 0} → (Q → A → Type 0) → (Q → A) → List Q → Type 0
 Agrees {Q} {A} returns answer asked = AllByRecursion (λ q. (r : A) → returns q r → r ≡ answer q) asked
+
+-- `result` is what the predicate reads under every set of atoms and every map of versions with which the answers agree
+abbrev pub EvaluatesTo : (CfgAtom → Bool → Type 0) → (List ℕ → Option Bool → Type 0) → CfgExpr → Option Bool → Type 0
+EvaluatesTo query version expr result =
+    (holds : CfgAtom → Bool) (answer : List ℕ → Option Bool) → Agrees query holds (atoms_of expr) → Agrees version answer (versions_of expr) → result ≡ reading holds answer expr
+
+-- `result` is what `read` makes of what these predicates read under every such set and map
+abbrev pub FoldsTo : (CfgAtom → Bool → Type 0) → (List ℕ → Option Bool → Type 0) → (List (Option Bool) → Option Bool) → List CfgExpr → Option Bool → Type 0
+FoldsTo query version read parts result =
+    (holds : CfgAtom → Bool) (answer : List ℕ → Option Bool) → Agrees query holds (flat_map (λ part. part) (map atoms_of parts)) → Agrees version answer (flat_map (λ part. part) (map versions_of parts)) →
+    result ≡ read (map (reading holds answer) parts)

@@ -7,7 +7,7 @@ use Rattle.std.specs.Cmp.Lexicographic.{pointwise, pointwise_decides, bytes_deci
 use Rattle.std.specs.FinSet as set
 use Rattle.std.specs.FinMap as map
 use Rattle.ra_cfg.specs.AtomOrder.{atom_total, same_atom}
-use Rattle.ra_cfg.specs.Options.{Options, atom_cmp}
+use Rattle.ra_cfg.specs.Options.{OptionSet, atom_cmp}
 
 -- whether two answers are for the same version, and the same
 abbrev pub same_answer : List ℕ × Bool → List ℕ × Bool → Bool
@@ -18,7 +18,7 @@ abbrev pub same_atoms : set.FinSet atom_cmp → set.FinSet atom_cmp → Bool
 same_atoms s t = set.is_subset s t && set.is_subset t s
 
 -- whether two options have the same atoms and the same answers
-abbrev pub same_options : Options → Options → Bool
+abbrev pub same_options : OptionSet → OptionSet → Bool
 same_options o other = same_atoms o.atoms other.atoms && pointwise same_answer (map.entries o.versions) (map.entries other.versions)
 
 first_so : (a b : Bool) → (a && b) ≡ true → a ≡ true
@@ -55,12 +55,12 @@ same_atoms_is s t = (
 )
 
 -- options with the same atoms and the same answers are equal
-pub same_options_is : (o other : Options) → Decides (same_options o other) (o ≡ other)
+pub same_options_is : (o other : OptionSet) → Decides (same_options o other) (o ≡ other)
 same_options_is o other =
     let answers = pointwise_decides same_answer_is (map.entries o.versions) (map.entries other.versions) in
     let parts = both_decided (same_atoms o.atoms other.atoms) (pointwise same_answer (map.entries o.versions) (map.entries other.versions)) (same_atoms_is o.atoms other.atoms) answers in (
       λ e i. record { atoms = (parts.0 e).0 i; versions = map.same_entries_map o.versions other.versions (parts.0 e).1 i },
-      λ e. parts.1 (ap (λ (p : Options). p.atoms) e, ap (λ (p : Options). map.entries p.versions) e),
+      λ e. parts.1 (ap (λ (p : OptionSet). p.atoms) e, ap (λ (p : OptionSet). map.entries p.versions) e),
     )
 
 pub same_options_equiv : IsEquivalence same_options

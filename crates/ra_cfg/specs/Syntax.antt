@@ -1,4 +1,4 @@
--- Which predicate the syntax of one means.
+-- Which predicate a syntax tree of one (`CfgPredicate`) means.
 use Rattle.std.specs.Prelude.{ℕ, if◌then◌else◌, List, [], ◌∷◌, Option, Some, None, codes}
 use Rattle.std.specs.Str.{bytes_eq}
 use Rattle.syn_trees.specs.ReadString.{value_of}

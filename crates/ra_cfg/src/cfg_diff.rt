@@ -1,7 +1,7 @@
-ghost use Rattle.std.specs.Prelude.{◌≡◌, ◌↔◌, ◌+◌, ◌&&◌, ◌<◌, ◌≤◌, ◌++◌, [], ◌∷◌, not, length, take, drop, slice_index_or, IfOk, IsTrue};
+ghost use Rattle.std.specs.Prelude.{◌≡◌, ◌↔◌, ◌+◌, ◌<◌, ◌≤◌, ◌++◌, [], ◌∷◌, length, take, drop, slice_index_or, IfOk, IsTrue};
 ghost use Rattle.std.specs.List.Sorted.{IsStrictlySortedBy};
 ghost use Rattle.ra_cfg.specs.declared.cfg_expr.CfgAtom.{CfgAtom as AtomValue};
-ghost use Rattle.ra_cfg.specs.Diff.{only, stands_in};
+ghost use Rattle.ra_cfg.specs.Diff.{HasOnly, IsDiff, only, stands_in};
 ghost use Rattle.ra_cfg.specs.Options.{atom_cmp};
 
 use crate::cfg_expr::CfgAtom;
@@ -14,6 +14,12 @@ use std::marker::Model;
 /// Atoms to enable and atoms to disable.
 ///
 /// Each list is in order and has no atom twice, and no atom stands in both.
+///
+/// ```
+/// let diff = CfgDiff::new(enable, disable);            // the flags `b`, `a` and `b`, and the flag `b`
+/// assert_eq!((diff.len(), diff.is_empty()), (1, false));
+/// assert_eq!(format!("{diff}"), "enable a");
+/// ```
 #[derive(Debug, Drop)]
 pub struct CfgDiff {
     enable: Vec<CfgAtom>,
@@ -44,10 +50,11 @@ impl fmt::Display for CfgDiff {
 }
 
 impl CfgDiff {
-    /// Makes a diff of these atoms. An atom that stands in both lists is left out of both.
+    /// Makes a diff of these atoms: it puts each list in order, and leaves out repeats and what stands in both lists.
     pub fn new(enable: Vec<CfgAtom>, disable: Vec<CfgAtom>) -> CfgDiff
-        ensures enabled { (a : AtomValue) → stands_in a result.enabled ≡ (stands_in a enable.items && not (stands_in a disable.items)) }
-        ensures disabled { (a : AtomValue) → stands_in a result.disabled ≡ (stands_in a disable.items && not (stands_in a enable.items)) }
+        ensures is_diff { IsDiff result }
+        ensures enabled { HasOnly enable.items disable.items result.enabled }
+        ensures disabled { HasOnly disable.items enable.items result.disabled }
     {
         let mut enable = in_order(enable);
         let mut disable = in_order(disable);
@@ -57,33 +64,41 @@ impl CfgDiff {
 
     /// Returns how many atoms the diff changes.
     pub fn len(&self) -> usize
-        ensures { result ≡ length self.now.enabled + length self.now.disabled }
+        ensures value { result ≡ length self.now.enabled + length self.now.disabled }
+        ensures is_diff { IsDiff self.now }
     {
         self.enable.len() + self.disable.len()
     }
 
     /// Returns whether the diff changes nothing.
     pub fn is_empty(&self) -> bool
-        ensures { IsTrue result ↔ (length self.now.enabled + length self.now.disabled ≡ 0) }
+        ensures value { IsTrue result ↔ (length self.now.enabled + length self.now.disabled ≡ 0) }
+        ensures is_diff { IsDiff self.now }
     {
         self.len() == 0
     }
 
     /// Returns the atoms to enable, in order.
     pub fn enabled(&self) -> &[CfgAtom]
-        ensures { result.now ≡ self.now.enabled }
+        ensures value { result.now ≡ self.now.enabled }
+        ensures is_diff { IsDiff self.now }
     {
         self.enable.as_slice()
     }
 
     /// Returns the atoms to disable, in order.
     pub fn disabled(&self) -> &[CfgAtom]
-        ensures { result.now ≡ self.now.disabled }
+        ensures value { result.now ≡ self.now.disabled }
+        ensures is_diff { IsDiff self.now }
     {
         self.disable.as_slice()
     }
 
     /// Makes a copy.
+    ///
+    /// # Errors
+    ///
+    /// Returns an error if there is no memory.
     pub fn try_clone(&self, alloc: Global) -> Result<CfgDiff, AllocError>
         ensures { IfOk result (λ copy. copy ≡ self.now) }
     {
@@ -177,57 +192,4 @@ fn keep_rest(atoms: &mut Vec<CfgAtom>, kept: usize, first: usize)
         next += 1;
     }
     atoms.truncate(end);
-}
-
-#[cfg(test)]
-mod tests {
-    use super::*;
-    use std::test::Fail;
-    use sym_core::Symbol;
-
-    // The flags of these names, which have blanks between.
-    fn flags(alloc: Global, names: &str) -> Result<Vec<CfgAtom>, AllocError> {
-        let mut atoms = Vec::new(alloc);
-        for name in names.split_whitespace() {
-            atoms.push(CfgAtom::Flag(Symbol::new(alloc, name)?))?;
-        }
-        Ok(atoms)
-    }
-
-    #[test]
-    fn keeps_its_lists_apart(rt: HostRuntime) -> Result<(), Fail> {
-        let enable = flags(rt.alloc(), "b a b")?;
-        let disable = flags(rt.alloc(), "b")?;
-        let diff = CfgDiff::new(enable, disable);
-        assert_eq!(rt; diff.len(), 1);
-        assert!(rt; !diff.is_empty());
-        assert_eq!(rt; diff.disabled().len(), 0);
-        let a = flags(rt.alloc(), "a")?;
-        assert!(rt; diff.enabled() == a.as_slice());
-        assert!(rt; diff.try_clone(rt.alloc())? == diff);
-        assert_eq!(rt; format!(in rt.alloc(); "{diff}")?.as_str(), "enable a");
-
-        let empty = CfgDiff::new(Vec::new(rt.alloc()), Vec::new(rt.alloc()));
-        assert!(rt; empty.is_empty());
-        assert!(rt; empty != diff);
-        let turned = CfgDiff::new(Vec::new(rt.alloc()), a);
-        assert!(rt; turned != diff);
-        Ok(())
-    }
-
-    #[test]
-    fn writes_its_lists(rt: HostRuntime) -> Result<(), Fail> {
-        let alloc = rt.alloc();
-        let cases = [
-            ("", "", ""),
-            ("", "a b", "disable a and b"),
-            ("c b a", "d", "enable a, b and c; disable d"),
-            ("a b", "b c e d", "enable a; disable c, d and e"),
-        ];
-        for (enable, disable, want) in cases {
-            let diff = CfgDiff::new(flags(alloc, enable)?, flags(alloc, disable)?);
-            assert_eq!(rt; format!(in alloc; "{diff}")?.as_str(), want);
-        }
-        Ok(())
-    }
 }

@@ -1,9 +1,8 @@
-ghost use Rattle.std.specs.Prelude.{◌≡◌, ◌↔◌, Bool, ℕ, List, Option, None, map, fold, IfOk, IsTrue};
-ghost use Rattle.std.specs.List.{flat_map};
+ghost use Rattle.std.specs.Prelude.{◌≡◌, ◌↔◌, Bool, None, map, fold, IfOk, IsTrue};
 ghost use Rattle.std.specs.Hash as fed;
 ghost use Rattle.std.specs.Fn.{FnReturnsAt};
 ghost use Rattle.ra_cfg.specs.declared.cfg_expr.CfgAtom.{CfgAtom as AtomValue};
-ghost use Rattle.ra_cfg.specs.Reading.{reading, read_all, read_any, atoms_of, versions_of, Agrees};
+ghost use Rattle.ra_cfg.specs.Reading.{reading, read_all, read_any, atoms_of, Agrees, EvaluatesTo, FoldsTo};
 ghost use Rattle.ra_cfg.specs.Hashed.{hashed};
 
 use sqlite_items::{Boxed, Items};
@@ -28,6 +27,14 @@ pub enum CfgAtom {
 }
 
 /// A predicate, as in `#[cfg(..)]`.
+///
+/// ```
+/// let set = |_atom: &CfgAtom| true;
+/// let expr = CfgExpr::from(CfgAtom::Flag(Symbol::new(alloc, "unix")?));
+/// assert_eq!(expr.fold(&set), Some(true));
+/// let contrary = CfgExpr::Not(Boxed::new(alloc, expr)?);
+/// assert_eq!(contrary.fold(&set), Some(false));
+/// ```
 #[derive(Debug, Drop)]
 pub enum CfgExpr {
     /// What is no predicate.
@@ -55,8 +62,14 @@ impl From<CfgAtom> for CfgExpr {
 }
 
 impl CfgExpr {
-    /// Returns what the predicate reads, where `query` tells of each atom whether it is set, and `version` of each
-    /// version what its answer is, if it has one. Returns `None` where the predicate reads nothing.
+    /// Evaluates the predicate to `Some(true)`, `Some(false)` or `None`, as it reads true, false or nothing: `query` tells
+    /// of each atom whether it is set, and `version` of each version what its answer is, if it has one.
+    ///
+    /// ```
+    /// let set = |_atom: &CfgAtom| true;
+    /// let version = CfgExpr::Version(Symbol::new(alloc, "1.70")?);
+    /// assert_eq!(version.fold_with(&set, &|_text| Some(false)), Some(false));
+    /// ```
     #[cycle(folding)]
     pub fn fold_with<F: Fn(&CfgAtom) -> bool, G: Fn(&Symbol) -> Option<bool>>(
         &self,
@@ -65,7 +78,7 @@ impl CfgExpr {
     ) -> Option<bool>
         requires query { F.IsAlwaysCallable query.now }
         requires version { G.IsAlwaysCallable version.now }
-        ensures { (holds : AtomValue → Bool) (answer : List ℕ → Option Bool) → Agrees (FnReturnsAt F.Fn query.now) holds (atoms_of self.now) → Agrees (FnReturnsAt G.Fn version.now) answer (versions_of self.now) → result ≡ reading holds answer self.now }
+        ensures { EvaluatesTo (FnReturnsAt F.Fn query.now) (FnReturnsAt G.Fn version.now) self.now result }
     {
         match self {
             CfgExpr::Invalid => None,
@@ -77,8 +90,14 @@ impl CfgExpr {
         }
     }
 
-    /// Returns what the predicate reads where no version has an answer, and `query` tells of each atom whether it is
-    /// set.
+    /// Evaluates the predicate to `Some(true)`, `Some(false)` or `None`, where no version has an answer, and `query` tells
+    /// of each atom whether it is set.
+    ///
+    /// ```
+    /// let set = |_atom: &CfgAtom| true;
+    /// let version = CfgExpr::Version(Symbol::new(alloc, "1.70")?);
+    /// assert_eq!(version.fold(&set), None);
+    /// ```
     pub fn fold<F: Fn(&CfgAtom) -> bool>(&self, query: &F) -> Option<bool>
         requires { F.IsAlwaysCallable query.now }
         ensures { (holds : AtomValue → Bool) → Agrees (FnReturnsAt F.Fn query.now) holds (atoms_of self.now) → result ≡ reading holds (λ text. None) self.now }
@@ -241,7 +260,7 @@ fn fold_all<F: Fn(&CfgAtom) -> bool, G: Fn(&Symbol) -> Option<bool>>(
 ) -> Option<bool>
     requires query { F.IsAlwaysCallable query.now }
     requires version { G.IsAlwaysCallable version.now }
-    ensures { (holds : AtomValue → Bool) (answer : List ℕ → Option Bool) → Agrees (FnReturnsAt F.Fn query.now) holds (flat_map (λ part. part) (map atoms_of parts.now)) → Agrees (FnReturnsAt G.Fn version.now) answer (flat_map (λ part. part) (map versions_of parts.now)) → result ≡ read_all (map (reading holds answer) parts.now) }
+    ensures { FoldsTo (FnReturnsAt F.Fn query.now) (FnReturnsAt G.Fn version.now) read_all parts.now result }
 {
     for part in parts {
         if !part.fold_with(query, version)? {
@@ -259,7 +278,7 @@ fn fold_any<F: Fn(&CfgAtom) -> bool, G: Fn(&Symbol) -> Option<bool>>(
 ) -> Option<bool>
     requires query { F.IsAlwaysCallable query.now }
     requires version { G.IsAlwaysCallable version.now }
-    ensures { (holds : AtomValue → Bool) (answer : List ℕ → Option Bool) → Agrees (FnReturnsAt F.Fn query.now) holds (flat_map (λ part. part) (map atoms_of parts.now)) → Agrees (FnReturnsAt G.Fn version.now) answer (flat_map (λ part. part) (map versions_of parts.now)) → result ≡ read_any (map (reading holds answer) parts.now) }
+    ensures { FoldsTo (FnReturnsAt F.Fn query.now) (FnReturnsAt G.Fn version.now) read_any parts.now result }
 {
     for part in parts {
         if part.fold_with(query, version)? {
@@ -267,61 +286,4 @@ fn fold_any<F: Fn(&CfgAtom) -> bool, G: Fn(&Symbol) -> Option<bool>>(
         }
     }
     Some(false)
-}
-
-#[cfg(test)]
-mod tests {
-    use super::*;
-    use std::hash::DefaultHasher;
-    use std::test::Fail;
-
-    // What `==` tells is known to its callers.
-    #[tactic(auto, using(crate::proofs::Deciding::equality))]
-    fn is_equal(left: &CfgExpr, right: &CfgExpr) -> bool
-        ensures { IsTrue result ↔ (left.now ≡ right.now) }
-    {
-        left == right
-    }
-
-    fn hash_of(expr: &CfgExpr) -> u64 {
-        let mut state = DefaultHasher::new();
-        expr.hash(&mut state);
-        state.finish()
-    }
-
-    fn flag(alloc: Global, name: &str) -> Result<CfgExpr, AllocError> {
-        Ok(CfgExpr::Atom(CfgAtom::Flag(Symbol::new(alloc, name)?)))
-    }
-
-    // `not(all(5, NAME, version("1.70")))`
-    fn nested(alloc: Global, name: &str) -> Result<CfgExpr, AllocError> {
-        let mut parts = Items::new(alloc);
-        parts.push(CfgExpr::Invalid)?;
-        parts.push(flag(alloc, name)?)?;
-        parts.push(CfgExpr::Version(Symbol::new(alloc, "1.70")?))?;
-        Ok(CfgExpr::Not(Boxed::new(alloc, CfgExpr::All(parts))?))
-    }
-
-    #[test]
-    fn copies_and_compares(rt: HostRuntime) -> Result<(), Fail> {
-        let original = nested(rt.alloc(), "a")?;
-        let copy = original.try_clone(rt.alloc())?;
-        assert!(rt; is_equal(&original, &copy));
-        assert_eq!(rt; hash_of(&original), hash_of(&copy));
-        let other = nested(rt.alloc(), "b")?;
-        assert!(rt; !is_equal(&original, &other));
-        assert!(rt; hash_of(&original) != hash_of(&other));
-        assert!(rt; CfgExpr::All(Items::new(rt.alloc())) != CfgExpr::Any(Items::new(rt.alloc())));
-        Ok(())
-    }
-
-    #[test]
-    fn folds_without_versions(rt: HostRuntime) -> Result<(), Fail> {
-        let a = flag(rt.alloc(), "a")?;
-        assert_eq!(rt; a.fold(&|_atom| true), Some(true));
-        assert_eq!(rt; a.fold(&|_atom| false), Some(false));
-        let version = CfgExpr::Version(Symbol::new(rt.alloc(), "1.70")?);
-        assert_eq!(rt; version.fold(&|_atom| true), None);
-        Ok(())
-    }
 }

@@ -5,7 +5,7 @@ ghost use Rattle.std.specs.FinMap as finite;
 ghost use Rattle.std.specs.Cmp.Lexicographic.{slice_cmp};
 ghost use Rattle.std.specs.Ordering.{nat_cmp};
 ghost use Rattle.ra_cfg.specs.declared.cfg_expr.CfgAtom.{CfgAtom as AtomValue};
-ghost use Rattle.ra_cfg.specs.Options.{IsReserved, IsSettable, Lists, Options, names_of, values_at, atom_cmp, name_of, only_true, with_atom, with_flag, with_free, with_answer, appended, with_all, without_free, without_all, TakesIn};
+ghost use Rattle.ra_cfg.specs.Options.{IsReserved, IsSettable, Lists, OptionSet, names_of, values_at, atom_cmp, name_of, only_true, with_atom, with_flag, with_free, with_answer, appended, with_all, without_free, without_all, TakesIn};
 ghost use Rattle.ra_cfg.specs.Diff.{with_diff};
 ghost use Rattle.ra_cfg.specs.Hashable.{IsListing};
 ghost use Rattle.std.specs.List.Sorted.{IsStrictlySortedBy};
@@ -23,9 +23,17 @@ use std::collections::{BTreeMap, BTreeSet};
 use std::marker::Model;
 use sym_core::Symbol;
 
-/// The options that predicates are read under: the atoms that are set, and the versions that have an answer.
+/// The options that predicates are evaluated under: the atoms that are set, and the versions that have an answer.
 ///
 /// The flag `true` is always set, and no other atom whose name or key is `true` or `false`.
+///
+/// ```
+/// let mut options = CfgOptions::new(alloc)?;
+/// assert!(options.insert_atom(Symbol::new(alloc, "unix")?)?);
+/// assert!(!options.insert_atom(Symbol::new(alloc, "true")?)?);     // reserved, and set from the start
+/// assert!(options.insert_key_value(Symbol::new(alloc, "k")?, Symbol::new(alloc, "v")?)?);
+/// assert_eq!(options.check(&expr), Some(true));                     // of `all(unix, k = "v")`
+/// ```
 #[derive(Debug, Drop)]
 pub struct CfgOptions {
     enabled: BTreeSet<CfgAtom>,
@@ -35,9 +43,9 @@ pub struct CfgOptions {
 impl Model for CfgOptions {
     ghost use Rattle.std.specs.FinSet as set;
     ghost use Rattle.std.specs.FinMap as finite;
-    ghost use Rattle.ra_cfg.specs.Options.{Options, options_code, IsSettable};
+    ghost use Rattle.ra_cfg.specs.Options.{OptionSet, options_code, IsSettable};
 
-    ghost Value = { Options };
+    ghost Value = { OptionSet };
 
     ghost coded = { options_code };
 
@@ -47,7 +55,11 @@ impl Model for CfgOptions {
 }
 
 impl CfgOptions {
-    /// Makes options with the flag `true` alone, and no version that has an answer.
+    /// Makes options with the flag `true` alone, and no version that has an answer. The type's example begins with it.
+    ///
+    /// # Errors
+    ///
+    /// Returns an error if there is no memory.
     pub fn new(alloc: Global) -> Result<CfgOptions, AllocError>
         ensures { IfOk result (λ options. options ≡ only_true) }
     {
@@ -60,7 +72,8 @@ impl CfgOptions {
         })
     }
 
-    /// Returns what the predicate reads under these options: `None` where it reads nothing.
+    /// Evaluates the predicate under these options: to `Some(true)`, `Some(false)` or `None`, as it reads true, false or
+    /// nothing. The type has an example.
     pub fn check(&self, cfg: &CfgExpr) -> Option<bool>
         ensures { result ≡ reads_under self.now cfg.now }
     {
@@ -71,8 +84,15 @@ impl CfgOptions {
     }
 
     /// Returns whether the atom is set.
+    ///
+    /// ```
+    /// let options = CfgOptions::new(alloc)?;
+    /// assert!(options.check_atom(&CfgAtom::Flag(Symbol::new(alloc, "true")?)));
+    /// assert!(!options.check_atom(&CfgAtom::Flag(Symbol::new(alloc, "false")?)));
+    /// ```
     pub fn check_atom(&self, cfg: &CfgAtom) -> bool
-        ensures { result ≡ set.contains self.now.atoms cfg.now }
+        ensures value { result ≡ set.contains self.now.atoms cfg.now }
+        ensures settable { IsSettable self.now.atoms }
     {
         self.enabled.contains(cfg)
     }
@@ -86,7 +106,7 @@ impl CfgOptions {
 
     /// Sets the flag with this name, and returns true.
     ///
-    /// The names `true` and `false` are reserved: for them it returns false, and sets nothing.
+    /// The names `true` and `false` are reserved: for them it returns false, and sets nothing. The type has an example.
     ///
     /// # Errors
     ///
@@ -102,7 +122,7 @@ impl CfgOptions {
 
     /// Sets the pair of this key and this value, and returns true.
     ///
-    /// The keys `true` and `false` are reserved: for them it returns false, and sets nothing.
+    /// The keys `true` and `false` are reserved: for them it returns false, and sets nothing. The type has an example.
     ///
     /// # Errors
     ///
@@ -131,6 +151,12 @@ impl CfgOptions {
 
     /// Sets the answer for the version with this text, in place of an older one.
     ///
+    /// ```
+    /// options.set_version(Symbol::new(alloc, "1.70")?, false)?;
+    /// assert_eq!(options.version("1.70"), Some(false));
+    /// assert_eq!(options.version("1.7"), None);
+    /// ```
+    ///
     /// # Errors
     ///
     /// Returns an error if there is no memory; the options are then as they were.
@@ -143,6 +169,13 @@ impl CfgOptions {
     }
 
     /// Takes in the atoms and the answers of other options, whose answers stand in place of older ones.
+    ///
+    /// ```
+    /// options.set_version(Symbol::new(alloc, "1.70")?, false)?;
+    /// later.set_version(Symbol::new(alloc, "1.70")?, true)?;
+    /// options.append(later)?;
+    /// assert_eq!(options.version("1.70"), Some(true));
+    /// ```
     ///
     /// # Errors
     ///
@@ -165,6 +198,12 @@ impl CfgOptions {
     }
 
     /// Sets the atoms that the diff enables, then unsets those that it disables. It leaves reserved names and keys alone.
+    ///
+    /// ```
+    /// let mut options = CfgOptions::from_iter(alloc, before)?;     // the flag `a`
+    /// options.apply_diff(CfgDiff::new(enable, disable))?;          // the flags `b` and `false`, and the flags `a` and `true`
+    /// assert!(options == CfgOptions::from_iter(alloc, after)?);    // the flag `b`
+    /// ```
     ///
     /// # Errors
     ///
@@ -223,6 +262,10 @@ impl CfgOptions {
     }
 
     /// Makes options with the flag `true` and these atoms, without those with a reserved name or key.
+    ///
+    /// # Errors
+    ///
+    /// Returns an error if there is no memory.
     pub fn from_iter<I: IntoIterator<Item = CfgAtom>>(
         alloc: Global,
         iter: I,
@@ -237,6 +280,11 @@ impl CfgOptions {
     }
 
     /// Returns the atoms, each once.
+    ///
+    /// ```
+    /// let options = CfgOptions::from_iter(alloc, atoms)?;     // the pair `k = "v"` and the flag `a`
+    /// assert_eq!(options.iter().count(), 3);                  // and the flag `true`
+    /// ```
     pub fn iter(&self) -> CfgIter<'_>
         ensures lists { Lists self.now.atoms result }
         ensures settable { IsSettable self.now.atoms }
@@ -245,6 +293,11 @@ impl CfgOptions {
     }
 
     /// Returns the name or the key of each atom.
+    ///
+    /// ```
+    /// let options = CfgOptions::from_iter(alloc, atoms)?;     // the pair `k = "v"` and the flag `a`
+    /// assert_eq!(options.get_cfg_keys().count(), 3);          // `a`, `true` and `k`
+    /// ```
     pub fn get_cfg_keys(&self) -> CfgKeys<'_>
         ensures { (atoms : List AtomValue) × Lists self.now.atoms atoms × (result ≡ names_of atoms) }
     {
@@ -252,6 +305,12 @@ impl CfgOptions {
     }
 
     /// Returns the value of each pair with this key.
+    ///
+    /// ```
+    /// let mut values = options.get_cfg_values("k");           // `options` has the pair `k = "v"`
+    /// assert_eq!(values.next(), Some(&Symbol::new(alloc, "v")?));
+    /// assert_eq!(values.next(), None);
+    /// ```
     pub fn get_cfg_values<'a>(&'a self, cfg_key: &'a str) -> CfgValues<'a>
         ensures { (atoms : List AtomValue) × Lists self.now.atoms atoms × (result ≡ values_at cfg_key.now atoms) }
     {
@@ -259,17 +318,27 @@ impl CfgOptions {
     }
 
     /// Lists the atoms and the answers in order, as a value that is compared and hashed.
+    ///
+    /// ```
+    /// let listing = options.to_hashable(alloc)?;              // `options` has the pair `k = "v"` and the flag `a`
+    /// assert!(listing.atoms() == want.as_slice());            // the flags `a` and `true`, and the pair
+    /// ```
+    ///
+    /// # Errors
+    ///
+    /// Returns an error if there is no memory.
     pub fn to_hashable(&self, alloc: Global) -> Result<HashableCfgOptions, AllocError>
         ensures { IfOk result (λ listing. IsListing self.now listing) }
     {
         let atoms = listed_atoms(alloc, &self.enabled)?;
         let versions = listed_versions(alloc, &self.versions)?;
-        Ok(HashableCfgOptions::new(atoms, versions))
+        Ok(HashableCfgOptions { atoms, versions })
     }
 
-    /// Keeps the options as they are, whatever the answer is.
+    /// Keeps the options as they are.
     ///
-    /// Atoms and answers are kept in trees, which offer no way to give spare memory back: today this does nothing.
+    /// Atoms and answers are kept in trees, which offer no way to give spare memory back: today this does nothing, and it
+    /// returns no error.
     pub fn shrink_to_fit(&mut self) -> Result<(), AllocError>
         ensures { self.new ≡ self.old }
     {
@@ -277,6 +346,10 @@ impl CfgOptions {
     }
 
     /// Makes a copy.
+    ///
+    /// # Errors
+    ///
+    /// Returns an error if there is no memory.
     pub fn try_clone(&self, _alloc: Global) -> Result<CfgOptions, AllocError>
         ensures { IfOk result (λ copy. copy ≡ self.now) }
     {
@@ -396,257 +469,5 @@ impl<'a> Comparable<Symbol> for Text<'a> {
 
     fn compare(&self, key: &Symbol) -> Ordering {
         self.text.cmp(key.as_str())
-    }
-}
-
-#[cfg(test)]
-mod tests {
-    use super::*;
-    use sqlite_items::{Boxed, Items};
-    use std::test::Fail;
-
-    fn options_with_a(alloc: Global) -> Result<CfgOptions, AllocError> {
-        let mut options = CfgOptions::new(alloc)?;
-        let name = Symbol::new(alloc, "a")?;
-        options.insert_atom(name)?;
-        Ok(options)
-    }
-
-    // `5` is no predicate.
-    fn predicate(alloc: Global, text: &str) -> Result<CfgExpr, AllocError> {
-        if text == "5" {
-            return Ok(CfgExpr::Invalid);
-        }
-        let name = Symbol::new(alloc, text)?;
-        Ok(CfgExpr::from(CfgAtom::Flag(name)))
-    }
-
-    fn negated(alloc: Global, text: &str) -> Result<CfgExpr, AllocError> {
-        let part = predicate(alloc, text)?;
-        Ok(CfgExpr::Not(Boxed::new(alloc, part)?))
-    }
-
-    fn parts(alloc: Global, texts: &[&str]) -> Result<Items<CfgExpr>, AllocError> {
-        let mut parts = Items::new(alloc);
-        for text in texts {
-            let part = predicate(alloc, text)?;
-            parts.push(part)?;
-        }
-        Ok(parts)
-    }
-
-    fn flag(alloc: Global, name: &str) -> Result<CfgAtom, AllocError> {
-        Ok(CfgAtom::Flag(Symbol::new(alloc, name)?))
-    }
-
-    fn pair(alloc: Global, key: &str, value: &str) -> Result<CfgAtom, AllocError> {
-        let key = Symbol::new(alloc, key)?;
-        let value = Symbol::new(alloc, value)?;
-        Ok(CfgAtom::KeyValue { key, value })
-    }
-
-    fn flags(alloc: Global, names: &[&str]) -> Result<Vec<CfgAtom>, AllocError> {
-        let mut atoms = Vec::new(alloc);
-        for name in names {
-            atoms.push(flag(alloc, name)?)?;
-        }
-        Ok(atoms)
-    }
-
-    // The flags `a` and `true`, and the pair k = "v".
-    fn options_with_pair(alloc: Global) -> Result<CfgOptions, AllocError> {
-        let mut options = options_with_a(alloc)?;
-        let key = Symbol::new(alloc, "k")?;
-        let value = Symbol::new(alloc, "v")?;
-        options.insert_key_value(key, value)?;
-        Ok(options)
-    }
-
-    #[test]
-    fn keeps_reserved_names(rt: HostRuntime) -> Result<(), Fail> {
-        let mut options = CfgOptions::new(rt.alloc())?;
-        for (name, set) in [("true", true), ("false", false)] {
-            let key = Symbol::new(rt.alloc(), name)?;
-            let atom = CfgAtom::Flag(key.clone()?);
-            assert!(rt; !options.insert_atom(key)?, "{name}");
-            assert_eq!(rt; options.check_atom(&atom), set, "{name}");
-        }
-        Ok(())
-    }
-
-    #[test]
-    fn holds_what_was_inserted(rt: HostRuntime) -> Result<(), Fail> {
-        let mut options = CfgOptions::new(rt.alloc())?;
-        let key = Symbol::new(rt.alloc(), "a")?;
-        let atom = CfgAtom::Flag(key.clone()?);
-        assert!(rt; !options.check_atom(&atom));
-        assert!(rt; options.insert_atom(key)?);
-        assert!(rt; options.check_atom(&atom));
-        Ok(())
-    }
-
-    #[test]
-    fn reads_flags(rt: HostRuntime) -> Result<(), Fail> {
-        let options = options_with_a(rt.alloc())?;
-        let table = [
-            ("a", Some(true), Some(false)),
-            ("b", Some(false), Some(true)),
-            ("5", None, None),
-        ];
-        for (text, plain, contrary) in table {
-            assert_eq!(rt;
-                options.check(&predicate(rt.alloc(), text)?),
-                plain,
-                "{text}"
-            );
-            assert_eq!(rt;
-                options.check(&negated(rt.alloc(), text)?),
-                contrary,
-                "{text}"
-            );
-        }
-        Ok(())
-    }
-
-    #[test]
-    fn reads_all_from_the_left(rt: HostRuntime) -> Result<(), Fail> {
-        let options = options_with_a(rt.alloc())?;
-        let table = [
-            (["a", "a"], Some(true)),
-            (["a", "b"], Some(false)),
-            (["a", "5"], None),
-            (["b", "5"], Some(false)),
-            (["5", "b"], None),
-        ];
-        for (texts, want) in table {
-            let all = CfgExpr::All(parts(rt.alloc(), &texts)?);
-            assert_eq!(rt; options.check(&all), want);
-        }
-        Ok(())
-    }
-
-    #[test]
-    fn reads_any_from_the_left(rt: HostRuntime) -> Result<(), Fail> {
-        let options = options_with_a(rt.alloc())?;
-        let table = [
-            (["b", "b"], Some(false)),
-            (["b", "a"], Some(true)),
-            (["b", "5"], None),
-            (["a", "5"], Some(true)),
-            (["5", "a"], None),
-        ];
-        for (texts, want) in table {
-            let any = CfgExpr::Any(parts(rt.alloc(), &texts)?);
-            assert_eq!(rt; options.check(&any), want);
-        }
-        Ok(())
-    }
-
-    #[test]
-    fn reads_what_has_no_parts(rt: HostRuntime) -> Result<(), Fail> {
-        let options = CfgOptions::new(rt.alloc())?;
-        let all = CfgExpr::All(Items::new(rt.alloc()));
-        let any = CfgExpr::Any(Items::new(rt.alloc()));
-        assert_eq!(rt; options.check(&all), Some(true));
-        assert_eq!(rt; options.check(&any), Some(false));
-        let version = CfgExpr::Version(Symbol::new(rt.alloc(), "1.70")?);
-        assert_eq!(rt; options.check(&version), None);
-        Ok(())
-    }
-
-    #[test]
-    fn takes_pairs_but_reserved_keys(rt: HostRuntime) -> Result<(), Fail> {
-        let mut options = CfgOptions::new(rt.alloc())?;
-        for (name, added) in [("k", true), ("true", false), ("false", false)] {
-            let key = Symbol::new(rt.alloc(), name)?;
-            let value = Symbol::new(rt.alloc(), "v")?;
-            assert_eq!(rt; options.insert_key_value(key, value)?, added, "{name}");
-            assert_eq!(rt;
-                options.check_atom(&pair(rt.alloc(), name, "v")?),
-                added,
-                "{name}"
-            );
-        }
-        Ok(())
-    }
-
-    #[test]
-    fn answers_versions(rt: HostRuntime) -> Result<(), Fail> {
-        let mut options = CfgOptions::new(rt.alloc())?;
-        assert_eq!(rt; options.version("1.70"), None);
-        for answer in [true, false] {
-            options.set_version(Symbol::new(rt.alloc(), "1.70")?, answer)?;
-            assert_eq!(rt; options.version("1.70"), Some(answer));
-            assert_eq!(rt; options.version("1.7"), None);
-        }
-        let mut later = CfgOptions::new(rt.alloc())?;
-        later.set_version(Symbol::new(rt.alloc(), "1.70")?, true)?;
-        options.append(later)?;
-        assert_eq!(rt; options.version("1.70"), Some(true));
-        let version = CfgExpr::Version(Symbol::new(rt.alloc(), "1.70")?);
-        assert_eq!(rt; options.check(&version), Some(true));
-        Ok(())
-    }
-
-    #[test]
-    fn takes_in_more_atoms(rt: HostRuntime) -> Result<(), Fail> {
-        let a = flag(rt.alloc(), "a")?;
-        let made = CfgOptions::from_iter(rt.alloc(), flags(rt.alloc(), &["a", "true"])?)?;
-        let mut extended = CfgOptions::new(rt.alloc())?;
-        extended.extend(flags(rt.alloc(), &["false", "a"])?)?;
-        let mut appended = CfgOptions::new(rt.alloc())?;
-        appended.append(made.try_clone(rt.alloc())?)?;
-        for options in [&made, &extended, &appended] {
-            assert!(rt; options.check_atom(&a));
-            assert!(rt; *options == options_with_a(rt.alloc())?);
-        }
-        appended.shrink_to_fit()?;
-        assert!(rt; appended == made);
-        assert!(rt; made != CfgOptions::new(rt.alloc())?);
-        Ok(())
-    }
-
-    #[test]
-    fn lists_its_atoms(rt: HostRuntime) -> Result<(), Fail> {
-        let options = options_with_pair(rt.alloc())?;
-        let listing = options.to_hashable(rt.alloc())?;
-        let want = [
-            flag(rt.alloc(), "a")?,
-            flag(rt.alloc(), "true")?,
-            pair(rt.alloc(), "k", "v")?,
-        ];
-        assert_eq!(rt; listing.atoms().len(), 3);
-        for i in 0..3 {
-            assert!(rt; listing.atoms()[i] == want[i], "{i}");
-        }
-        assert!(rt; listing.try_clone(rt.alloc())? == listing);
-        assert!(rt; options_with_a(rt.alloc())?.to_hashable(rt.alloc())? != listing);
-        Ok(())
-    }
-
-    #[test]
-    fn applies_diffs(rt: HostRuntime) -> Result<(), Fail> {
-        let mut options = options_with_pair(rt.alloc())?;
-        let enable = flags(rt.alloc(), &["b", "false"])?;
-        let disable = flags(rt.alloc(), &["a", "true"])?;
-        options.apply_diff(CfgDiff::new(enable, disable))?;
-        let table = [("a", false), ("b", true), ("true", true), ("false", false)];
-        for (name, set) in table {
-            assert_eq!(rt; options.check_atom(&flag(rt.alloc(), name)?), set, "{name}");
-        }
-        assert!(rt; options.check_atom(&pair(rt.alloc(), "k", "v")?));
-        Ok(())
-    }
-
-    #[test]
-    fn goes_through_its_atoms(rt: HostRuntime) -> Result<(), Fail> {
-        let options = options_with_pair(rt.alloc())?;
-        assert_eq!(rt; options.iter().count(), 3);
-        assert_eq!(rt; options.get_cfg_keys().count(), 3);
-        let mut values = options.get_cfg_values("k");
-        assert_eq!(rt; values.next(), Some(&Symbol::new(rt.alloc(), "v")?));
-        assert_eq!(rt; values.next(), None);
-        assert_eq!(rt; options.into_iter().count(), 3);
-        Ok(())
     }
 }

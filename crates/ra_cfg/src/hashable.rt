@@ -1,6 +1,5 @@
 ghost use Rattle.std.specs.Prelude.{◌≡◌, IfOk};
-ghost use Rattle.std.specs.List.Sorted.{IsStrictlySortedBy};
-ghost use Rattle.ra_cfg.specs.Options.{atom_cmp};
+ghost use Rattle.ra_cfg.specs.Hashable.{IsOfOptions};
 
 use crate::cfg_expr::CfgAtom;
 use std::alloc::{AllocError, Global};
@@ -8,39 +7,40 @@ use std::hash::{Hash, Hasher};
 use std::marker::Model;
 use sym_core::Symbol;
 
-/// Options as a value that is compared and hashed: two are equal exactly where the options are.
+/// The atoms and the answers of options as lists in order, which are compared and hashed: two are equal exactly where
+/// the options are.
 #[derive(Debug, Drop)]
 pub struct HashableCfgOptions {
-    atoms: Vec<CfgAtom>,
-    versions: Vec<(Symbol, bool)>,
+    pub(crate) atoms: Vec<CfgAtom>,
+    pub(crate) versions: Vec<(Symbol, bool)>,
 }
 
 impl Model for HashableCfgOptions {
-    ghost use Rattle.ra_cfg.specs.Hashable.{Listing, listing_code};
+    ghost use Rattle.ra_cfg.specs.Hashable.{Listing, listing_code, IsOfOptions};
 
     ghost Value = { Listing };
 
     ghost coded = { listing_code };
 
     ghost view = { λ h. record { atoms = h.atoms.items; versions = h.versions.items } };
+
+    ghost invariant = { λ h. IsOfOptions (record { atoms = h.atoms.items; versions = h.versions.items }) };
 }
 
 impl HashableCfgOptions {
-    pub(crate) fn new(atoms: Vec<CfgAtom>, versions: Vec<(Symbol, bool)>) -> HashableCfgOptions
-        ensures atoms { result.atoms ≡ atoms.items }
-        ensures versions { result.versions ≡ versions.items }
-    {
-        HashableCfgOptions { atoms, versions }
-    }
-
-    /// Returns the atoms, in order.
+    /// Returns the atoms, in order: the flag `true` is among them.
     pub fn atoms(&self) -> &[CfgAtom]
-        ensures { result.now ≡ self.now.atoms }
+        ensures value { result.now ≡ self.now.atoms }
+        ensures of_options { IsOfOptions self.now }
     {
         self.atoms.as_slice()
     }
 
     /// Makes a copy.
+    ///
+    /// # Errors
+    ///
+    /// Returns an error if there is no memory.
     pub fn try_clone(&self, alloc: Global) -> Result<HashableCfgOptions, AllocError>
         ensures { IfOk result (λ copy. copy ≡ self.now) }
     {

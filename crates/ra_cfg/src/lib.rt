@@ -1,5 +1,5 @@
-//! The predicates of conditional compilation, and the options that they are read under.
-//! A predicate reads true, false or nothing; what is off is what reads false.
+//! The predicates of conditional compilation, and the options that they are evaluated under.
+//! A predicate evaluates to `Some(true)`, `Some(false)` or `None`: it reads true, false or nothing. What is off is what reads false.
 #![tactic(auto)]
 
 mod cfg_diff;
@@ -9,8 +9,10 @@ mod cfg_options;
 mod cfg_text;
 mod hashable;
 mod laws;
-mod syntax;
-mod tokens;
+mod parse_ast;
+mod parse_tokens;
+#[cfg(test)]
+mod tests;
 
 pub use cfg_diff::CfgDiff;
 pub use cfg_expr::{CfgAtom, CfgExpr};
@@ -18,5 +20,6 @@ pub use cfg_iter::{CfgIntoIter, CfgIter, CfgKeys, CfgValues};
 pub use cfg_options::CfgOptions;
 pub use hashable::HashableCfgOptions;
 pub use laws::{
-    atoms_in_order, diff_decides, diff_has_each_once, listings_decide, predicates_in_turn,
+    atoms_in_order, diff_decides, diff_has_each_once, diff_has_its_atoms, listings_decide,
+    options_stay_settable, predicates_in_turn,
 };

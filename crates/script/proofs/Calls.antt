@@ -12,7 +12,7 @@ use Rattle.text_cut.proofs.Pieces.{furthest, one_reading}
 use Rattle.text_cut.proofs.Longer.{spelled_before, reach_longer}
 use Rattle.text_cut.proofs.SoFar.{so_far_begins, so_far_more}
 use Rattle.ra_cfg.specs.declared.cfg_expr.CfgExpr.{CfgExpr}
-use Rattle.ra_cfg.specs.Options.{Options, only_true}
+use Rattle.ra_cfg.specs.Options.{OptionSet, only_true}
 use Rattle.hir_lower.specs.declared.call.GatedCall.{GatedCall}
 use Rattle.hir_lower.specs.declared.call.Call.TheVariants.{Format}
 use Rattle.script.specs.declared.reading.Reading.{Reading}
@@ -22,7 +22,7 @@ use Rattle.script.specs.ReadCalls.{no_state, waiting_behind, GoesOn, IsEmpty, Ha
 use Rattle.script.proofs.Items.{items_read, steps_by, ignores_rest, item_further}
 
 -- the options of items and of more items
-options_more : (o : Options) (values more : List Item) → options_with o (values ++ more) ≡ options_with (options_with o values) more
+options_more : (o : OptionSet) (values more : List Item) → options_with o (values ++ more) ≡ options_with (options_with o values) more
 options_more o [] more = refl
 options_more o (Blank ∷ values) more = options_more o values more
 options_more o (OptionItem change ∷ values) more = options_more (changed o change) values more
@@ -187,9 +187,9 @@ pub one_list : (bytes : List ℕ) (spelled others : List (Spelled Item)) → Are
 one_list bytes spelled others are also = one_reading IsItem no_state (λ state. item_at) items_read (chars bytes) spelled others are.reading also.reading
 
 -- bytes have one set of options
-pub one_set : (bytes : List ℕ) (options others : Options) (calls more : List GatedCall) → AreCalls bytes options calls → AreCalls bytes others more → options ≡ others
+pub one_set : (bytes : List ℕ) (options others : OptionSet) (calls more : List GatedCall) → AreCalls bytes options calls → AreCalls bytes others more → options ≡ others
 one_set bytes options others calls more a b = a.options_are ∙ (ap (λ l. options_of (items l)) (one_list bytes a.spelled b.spelled a.are b.are) ∙ sym b.options_are)
 
 -- bytes have one list of calls
-pub one_calls : (bytes : List ℕ) (options others : Options) (calls more : List GatedCall) → AreCalls bytes options calls → AreCalls bytes others more → calls ≡ more
+pub one_calls : (bytes : List ℕ) (options others : OptionSet) (calls more : List GatedCall) → AreCalls bytes options calls → AreCalls bytes others more → calls ≡ more
 one_calls bytes options others calls more a b = a.calls_are ∙ (ap (λ l. calls_of (items l)) (one_list bytes a.spelled b.spelled a.are b.are) ∙ sym b.calls_are)

@@ -9,7 +9,7 @@ use Rattle.text_cut.specs.Reading.{Spelled, texts, ReadsPieces, StepsBy, Ignores
 use Rattle.text_cut.proofs.Sizes.{size_append, size_some}
 use Rattle.text_cut.proofs.Rules.{took_both, word_is, past_is}
 use Rattle.text_cut.proofs.Runs.{front_is}
-use Rattle.text_cut.proofs.Options.{mapped, none_some}
+use Rattle.text_cut.proofs.OptionLaws.{mapped, none_some}
 use Rattle.script_tokens.specs.Words.{IsComment}
 use Rattle.script_tokens.specs.ReadTokens.{past_line, past_keyword, past_comment}
 use Rattle.script_tokens.proofs.Strings.{CommentIs, past_run, keyword_is, comment_found, comment_is}

@@ -9,7 +9,7 @@ use Rattle.text_cut.specs.Reading.{Spelled, texts, items, AreSpelled}
 use Rattle.text_cut.proofs.Sizes.{size_append}
 use Rattle.text_cut.proofs.Runs.{front_is}
 use Rattle.text_cut.proofs.Rules.{took_none, took_both, past_is}
-use Rattle.text_cut.proofs.Options.{mapped, chosen, none_some}
+use Rattle.text_cut.proofs.OptionLaws.{mapped, chosen, none_some}
 use Rattle.script_tokens.specs.Words.{continues_word}
 use Rattle.script_tokens.specs.ReadTokens.{past_spaced, number_of, number_at}
 use Rattle.script_tokens.proofs.Digits.{IsNumber, number_of_is, number_found}

@@ -6,7 +6,7 @@ use Rattle.text_cut.specs.Runs.{starts, size, is_blank}
 use Rattle.text_cut.specs.Place.{Place, place, past, Took}
 use Rattle.text_cut.proofs.Sizes.{size_append}
 use Rattle.text_cut.proofs.Rules.{took_both}
-use Rattle.text_cut.proofs.Options.{mapped}
+use Rattle.text_cut.proofs.OptionLaws.{mapped}
 use Rattle.script_tokens.specs.Words.{continues_word}
 use Rattle.script_tokens.specs.ReadTokens.{past_line, past_keyword}
 use Rattle.script_tokens.proofs.Strings.{RunAndWord, KeywordIs, past_run, run_then, run_then_is, keyword_found}

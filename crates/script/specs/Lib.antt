@@ -1,3 +1,4 @@
+pub mod Limit
 pub mod Line
 pub mod Bodies
 pub mod ReadBodies

@@ -7,7 +7,7 @@ use Rattle.script_tokens.specs.Words.{IsComment}
 use Rattle.sym_core.specs.declared.files.AstPtr.{AstPtr}
 use Rattle.ra_cfg.specs.declared.cfg_expr.CfgAtom.TheVariants.{Flag, KeyValue}
 use Rattle.ra_cfg.specs.declared.cfg_expr.CfgExpr.{CfgExpr}
-use Rattle.ra_cfg.specs.Options.{Options, with_free, with_answer, only_true}
+use Rattle.ra_cfg.specs.Options.{OptionSet, with_free, with_answer, only_true}
 use Rattle.syn_trees.specs.declared.format_call.Template.TheVariants.{Str}
 use Rattle.syn_trees.specs.declared.format_call.FormatCall.{FormatCall}
 use Rattle.syn_trees.specs.declared.format_call.FormatArgSyntax.{FormatArgSyntax}
@@ -71,13 +71,13 @@ abbrev pub calls_of : List Item → List GatedCall
 calls_of values = calls_behind 0 [] values
 
 -- the options behind a change: what has a reserved name or key changes nothing
-abbrev pub changed : Options → Change → Options
+abbrev pub changed : OptionSet → Change → OptionSet
 changed options (SetFlag name) = with_free options (Flag name)
 changed options (SetPair key value) = with_free options (KeyValue key value)
 changed options (SetVersion version answer) = with_answer options version answer
 
 -- options, with the changes of items
-abbrev pub options_with : Options → List Item → Options
+abbrev pub options_with : OptionSet → List Item → OptionSet
 options_with options [] = options
 options_with options (Blank ∷ more) = options_with options more
 options_with options (OptionItem change ∷ more) = options_with (changed options change) more
@@ -85,7 +85,7 @@ options_with options (PredicateItem predicate ∷ more) = options_with options m
 options_with options (FormatItem call ∷ more) = options_with options more
 
 -- the options of items, wherever they stand
-abbrev pub options_of : List Item → Options
+abbrev pub options_of : List Item → OptionSet
 options_of values = options_with only_true values
 
 -- whether the last of the bytes is a line feed
@@ -100,14 +100,14 @@ with_end [] = []
 with_end (b ∷ bytes) = cond (ends_line (b ∷ bytes)) (b ∷ bytes) ((b ∷ bytes) ++ 10 ∷ [])
 
 -- the bytes are items, and these are their options and calls
-pub record AreCalls (bytes : List ℕ) (options : Options) (calls : List GatedCall) : Type 0 where
+pub record AreCalls (bytes : List ℕ) (options : OptionSet) (calls : List GatedCall) : Type 0 where
   pub spelled : List (Spelled Item)
   pub are : AreItems bytes spelled
   pub options_are : options ≡ options_of (items spelled)
   pub calls_are : calls ≡ calls_of (items spelled)
 
 -- the bytes are a script with these options and calls
-abbrev pub IsScript : List ℕ → Options → List GatedCall → Type 0
+abbrev pub IsScript : List ℕ → OptionSet → List GatedCall → Type 0
 IsScript bytes options calls = AreCalls (with_end bytes) options calls
 
 -- this is the longest front of the bytes that is a list of whole items
@@ -121,7 +121,7 @@ pub record IsLongestFront (bytes front : List ℕ) : Type 0 where
 
 -- the bytes are no items, and the first broken one begins in this line, counted from 1
 pub record BreaksAt (bytes : List ℕ) (line : ℕ) : Type 0 where
-  pub none : (options : Options) (calls : List GatedCall) → AreCalls bytes options calls → ⊥
+  pub none : (options : OptionSet) (calls : List GatedCall) → AreCalls bytes options calls → ⊥
   pub front : List ℕ
   pub is_longest : IsLongestFront bytes front
   pub counts : line ≡ suc (count_by (λ b. nat_eq b 10) front)

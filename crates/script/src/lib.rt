@@ -9,4 +9,4 @@ mod script;
 mod tokens;
 
 pub use laws::one_script;
-pub use script::{MOST, Script, ScriptError, end_last_line, read_ended, read_script};
+pub use script::{MAX_SCRIPT_LEN, Script, ScriptError, end_last_line, read_ended, read_script};

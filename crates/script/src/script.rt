@@ -13,7 +13,7 @@ use text_cut::begin;
 use thiserror::Error;
 
 /// The greatest length of a script, in bytes.
-pub const MOST: usize = 16_777_216;
+pub const MAX_SCRIPT_LEN: usize = 16_777_216;
 
 /// A script that was read.
 #[derive(Drop)]
@@ -87,16 +87,21 @@ fn line_behind(bytes: &[u8]) -> u64
     bytes.iter().filter(|b| **b == b'\n').count() as u64 + 1
 }
 
-/// Reads a script whose last line ends in a line feed.
+/// Reads a script whose last line ends in a line feed. Where it does not, the last line is no item:
 ///
-/// Where it does not, as in `format "a"` alone, the last line is no item; see [`end_last_line`].
+/// ```
+/// let mut bytes = Vec::from_slice(alloc, b"format \"a\"")?;
+/// assert!(rt; matches!(read_ended(alloc, &bytes), Err(ScriptError::Syntax { line: 1 })));
+/// end_last_line(&mut bytes)?;
+/// assert_eq!(rt; read_ended(alloc, &bytes)?.calls.len(), 1);
+/// ```
 ///
 /// # Errors
 ///
 /// [`ScriptError::Syntax`] with the line of the first broken item, exactly where the bytes are no list of items;
 /// [`ScriptError::Memory`] where no memory is left.
 pub fn read_ended(alloc: Global, bytes: &[u8]) -> Result<Script, ScriptError>
-    requires { length bytes.now ≤ MOST + 1 }
+    requires { length bytes.now ≤ MAX_SCRIPT_LEN + 1 }
     ensures script { IfOk result (λ script. AreCalls bytes.now script.options script.calls.items) }
     ensures fault { BreakIs result bytes.now }
 {
@@ -124,7 +129,7 @@ fn lacks_end(bytes: &[u8]) -> bool
     }
 }
 
-/// Adds a line feed behind bytes that do not end in one; no bytes stay none.
+/// Adds a line feed behind bytes that do not end in one; no bytes stay none. For an example see [`read_ended`].
 ///
 /// # Errors
 ///
@@ -141,14 +146,20 @@ pub fn end_last_line(bytes: &mut Vec<u8>) -> Result<(), AllocError>
     Ok(())
 }
 
-/// Reads a script of at most [`MOST`] bytes, whose last line may lack its line feed.
+/// Reads a script of at most [`MAX_SCRIPT_LEN`] bytes, whose last line may lack its line feed.
+///
+/// ```
+/// let script = read_script(alloc, b"opt a\ncfg a\nformat \"hi\"")?;
+/// assert_eq!(rt; script.calls.len(), 1);
+/// assert!(rt; matches!(read_script(alloc, b"opt a\n?"), Err(ScriptError::Syntax { line: 2 })));
+/// ```
 ///
 /// # Errors
 ///
 /// [`ScriptError::Syntax`] with the line of the first broken item, exactly where the bytes are no script;
 /// [`ScriptError::Memory`] where no memory is left.
 pub fn read_script(alloc: Global, bytes: &[u8]) -> Result<Script, ScriptError>
-    requires { length bytes.now ≤ MOST }
+    requires { length bytes.now ≤ MAX_SCRIPT_LEN }
     ensures script { IfOk result (λ script. IsScript bytes.now script.options script.calls.items) }
     ensures fault { FaultIs result bytes.now }
 {
@@ -199,7 +210,7 @@ mod tests {
 
     // The calls, one a line; or the line of the fault.
     fn told(alloc: Global, bytes: &[u8]) -> Result<String, ScriptError>
-        requires { length bytes.now ≤ MOST }
+        requires { length bytes.now ≤ MAX_SCRIPT_LEN }
     {
         let mut text = String::new(alloc);
         match read_script(alloc, bytes) {
@@ -233,13 +244,35 @@ mod tests {
         for (bytes, want) in cases {
             assert_eq!(rt; told(rt.alloc(), bytes)?.as_str(), want, "at {bytes:?}");
         }
+        Ok(())
+    }
+
+    #[test]
+    fn reads_a_script(rt: HostRuntime) -> Result<(), Fail> {
+        let alloc = rt.alloc();
+        let script = read_script(alloc, b"opt a\ncfg a\nformat \"hi\"")?;
+        assert_eq!(rt; script.calls.len(), 1);
         assert!(rt;
             matches!(
-                read_ended(rt.alloc(), b"format \"a\""),
-                Err(ScriptError::Syntax { line: 1 })
-            ),
-            "a last line without its end"
+                read_script(alloc, b"opt a\n?"),
+                Err(ScriptError::Syntax { line: 2 })
+            )
         );
+        Ok(())
+    }
+
+    #[test]
+    fn ends_the_last_line(rt: HostRuntime) -> Result<(), Fail> {
+        let alloc = rt.alloc();
+        let mut bytes = Vec::from_slice(alloc, b"format \"a\"")?;
+        assert!(rt;
+            matches!(
+                read_ended(alloc, &bytes),
+                Err(ScriptError::Syntax { line: 1 })
+            )
+        );
+        end_last_line(&mut bytes)?;
+        assert_eq!(rt; read_ended(alloc, &bytes)?.calls.len(), 1);
         Ok(())
     }
 
@@ -348,7 +381,7 @@ mod tests {
         push_marks(&mut text, marks)?;
         text.push_str("\"a\"")?;
         push_marks(&mut text, marks)?;
-        if text.len() > MOST {
+        if text.len() > MAX_SCRIPT_LEN {
             return Ok(false);
         }
         match read_script(alloc, text.as_bytes()) {

@@ -5,7 +5,7 @@ ghost use Rattle.script_tokens.specs.ReadTokens.{past_keyword, past_spaced};
 ghost use Rattle.script.specs.ReadBodies.{answer_of, leaf_at, is_placeholder, holes_in, first_of};
 
 use script_tokens::{keyword, number};
-use text_cut::{Cursor, blanks, first_char, word};
+use text_cut::{Cursor, blanks, eat, first_char};
 
 // The place behind the keyword `opt`.
 #[tactic(auto, using(crate::proofs::Words::words))]
@@ -58,7 +58,7 @@ pub(crate) fn equals(here: Cursor<'_>) -> Option<Cursor<'_>>
     ensures value { option_map seen result ≡ past_spaced (61 ∷ []) (seen here.entry) }
     ensures shorter { IfSome result (λ e. length e.rest.now + 1 ≤ length here.entry.rest.now) }
 {
-    word(blanks(here), "=")
+    eat(blanks(here), "=")
 }
 
 // The answer that a word says.
@@ -78,7 +78,7 @@ fn at_sign(here: Cursor<'_>) -> Option<Cursor<'_>>
     ensures value { option_map seen result ≡ past_word (64 ∷ []) (seen here.entry) }
     ensures shorter { IfSome result (λ e. length e.rest.now + 1 ≤ length here.entry.rest.now) }
 {
-    word(here, "@")
+    eat(here, "@")
 }
 
 /// The number of the leaf that stands behind blanks, and the place behind it.

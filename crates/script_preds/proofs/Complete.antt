@@ -1,7 +1,7 @@
 -- What the grammar lets stand is read, token by token.
 use Rattle.std.proofs.Common.{◌≡◌, ℕ, suc, ◌+◌, ◌≤◌, ◌<◌, cond, lt-ltb, List, [], ◌∷◌, ◌++◌, length, Some, None, refl, ap, ◌∙◌, sym, append_assoc, append-nil, codes, arith}
 use Rattle.std.specs.Option.{option_and_then}
-use Rattle.text_cut.proofs.Options.{none_some}
+use Rattle.text_cut.proofs.OptionLaws.{none_some}
 use Rattle.std.proofs.lemmas.Option.{same_Some}
 use Rattle.syn_trees.specs.declared.cfg_predicate.CfgPredicate.{CfgPredicate, Composite}
 use Rattle.script_preds.specs.declared.parser.Frame.{Frame}

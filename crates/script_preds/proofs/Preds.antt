@@ -6,7 +6,7 @@ use Rattle.text_cut.specs.Runs.{size}
 use Rattle.text_cut.specs.Place.{Place, place}
 use Rattle.text_cut.specs.Reading.{Spelled, texts, items, AreSpelled}
 use Rattle.text_cut.specs.Many.{ManyAre}
-use Rattle.text_cut.proofs.Options.{mapped}
+use Rattle.text_cut.proofs.OptionLaws.{mapped}
 use Rattle.text_cut.proofs.Many.{many_found, many_are, piece_found}
 use Rattle.syn_trees.specs.declared.cfg_predicate.CfgPredicate.{CfgPredicate}
 use Rattle.script_preds.specs.Tokens.{Tok, IsTok}

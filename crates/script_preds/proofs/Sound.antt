@@ -4,7 +4,7 @@ use Rattle.std.specs.Option.{option_and_then}
 use Rattle.std.proofs.lemmas.Bool.{and_parts, eqb-true, ltb-true}
 use Rattle.std.proofs.lemmas.Slice.Eq.{bytes_eq-Decides}
 use Rattle.std.proofs.lemmas.Option.{same_Some}
-use Rattle.text_cut.proofs.Options.{none_some}
+use Rattle.text_cut.proofs.OptionLaws.{none_some}
 use Rattle.syn_trees.specs.declared.cfg_predicate.CfgPredicate.{CfgPredicate, Atom, Composite, Version}
 use Rattle.script_preds.specs.declared.parser.Frame.{Frame}
 use Rattle.script_preds.specs.declared.parser.Mode.{Mode}

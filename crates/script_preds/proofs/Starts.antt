@@ -6,7 +6,7 @@ use Rattle.std.proofs.lemmas.Option.{same_Some}
 use Rattle.text_cut.specs.Runs.{starts, front, is_blank}
 use Rattle.text_cut.specs.Place.{Place, place, past}
 use Rattle.text_cut.proofs.Runs.{front_is}
-use Rattle.text_cut.proofs.Options.{chosen, none_some}
+use Rattle.text_cut.proofs.OptionLaws.{chosen, none_some}
 use Rattle.syn_trees.specs.StringToken.{raw_end, Quoting, Plain, Raw, IsQuoted}
 use Rattle.syn_trees.specs.ReadString.{token_end}
 use Rattle.syn_trees.proofs.Tokens.{TokenIs, token_is}

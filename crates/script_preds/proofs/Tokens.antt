@@ -14,7 +14,7 @@ use Rattle.text_cut.proofs.Whole.{no_state}
 use Rattle.text_cut.proofs.Sizes.{size_append}
 use Rattle.text_cut.proofs.Runs.{front_is}
 use Rattle.text_cut.proofs.Rules.{took_one, took_both, past_is}
-use Rattle.text_cut.proofs.Options.{mapped, chosen, none_some}
+use Rattle.text_cut.proofs.OptionLaws.{mapped, chosen, none_some}
 use Rattle.syn_trees.specs.ReadString.{token_end}
 use Rattle.syn_trees.proofs.Tokens.{token_found, TokenIs, token_is}
 use Rattle.syn_trees.proofs.Values.{between_took}

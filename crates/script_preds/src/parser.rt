@@ -13,7 +13,7 @@ use sym_core::Symbol;
 use syn_trees::{CfgAtomKey, CfgPredicate, StringLit};
 
 // The greatest number of brackets that are open at one place.
-const MOST: usize = 128;
+const MAX_DEPTH: usize = 128;
 
 // Brackets that are open, with the word in front of them and the predicates that are whole in them.
 #[derive(Drop)]
@@ -203,7 +203,7 @@ fn comma_behind(mut frames: Vec<Frame>, pred: CfgPredicate) -> Result<Option<Par
 fn opened(alloc: Global, mut frames: Vec<Frame>, word: Symbol) -> Result<Option<Parser>, AllocError>
     ensures { IfOk result (λ o. option_map parsing_of o ≡ opened (reverse frames.items) word) }
 {
-    if frames.len() >= MOST {
+    if frames.len() >= MAX_DEPTH {
         return Ok(None);
     }
     frames.push(Frame {

@@ -11,6 +11,13 @@ use text_cut::Cursor;
 /// Returns the predicate that stands here, and the place behind it; `None` where none does, or where more tokens follow.
 ///
 /// All tokens from here on are the predicate's, up to where none stands, as at the end of a line.
+///
+/// ```
+/// let (pred, end) = read_pred(alloc, begin("not(a)\n"))?.expect(&rt, "a predicate");
+/// assert!(rt; matches!(pred, CfgPredicate::Composite { .. }));
+/// assert_eq!(rt; end.rest, "\n");
+/// assert!(rt; read_pred(alloc, begin("not(a"))?.is_none());
+/// ```
 #[tactic(auto, using(crate::proofs::SoFar::so_far))]
 pub fn read_pred(
     alloc: Global,
@@ -58,7 +65,7 @@ mod tests {
         }
     }
 
-    // Adds a predicate; each one in brackets ends with `;`.
+    // Adds a predicate; each one in brackets ends in `;`.
     #[cycle(printing)]
     fn push_pred(out: &mut String, pred: &CfgPredicate) -> Result<(), AllocError> {
         match pred {
@@ -154,6 +161,16 @@ mod tests {
         for (text, want) in cases {
             assert_eq!(rt; told(rt.alloc(), text)?.as_str(), want, "at {text}");
         }
+        Ok(())
+    }
+
+    #[test]
+    fn reads_up_to_the_end_of_a_line(rt: HostRuntime) -> Result<(), Fail> {
+        let alloc = rt.alloc();
+        let (pred, end) = read_pred(alloc, begin("not(a)\n"))?.expect(&rt, "a predicate");
+        assert!(rt; matches!(pred, CfgPredicate::Composite { .. }));
+        assert_eq!(rt; end.rest, "\n");
+        assert!(rt; read_pred(alloc, begin("not(a"))?.is_none());
         Ok(())
     }
 

@@ -7,7 +7,7 @@ ghost use Rattle.script_preds.specs.ReadPreds.{mark_of, as_mark, begins_raw, oth
 ghost use Rattle.script_preds.specs.Seen.{tok_of, HasLiteral};
 
 use script_tokens::{plain_word, string};
-use text_cut::{Cursor, blanks, next, run, starts_with, word};
+use text_cut::{Cursor, blanks, eat, eat_while, next, starts_with};
 
 // A token of a predicate.
 #[derive(Clone, Copy, Drop)]
@@ -26,7 +26,7 @@ fn raw_letter(here: Cursor<'_>) -> Option<Cursor<'_>>
     ensures value { option_map seen result ≡ past_word (114 ∷ []) (seen here.entry) }
     ensures shorter { IfSome result (λ e. length e.rest.now ≤ length here.entry.rest.now) }
 {
-    word(here, "r")
+    eat(here, "r")
 }
 
 // The place behind all the `#` that stand here.
@@ -34,7 +34,7 @@ fn marks_end(here: Cursor<'_>) -> Cursor<'_>
     ensures value { seen result ≡ past (λ c. c == 35) (seen here.entry) }
     ensures shorter { length result.rest.now ≤ length here.entry.rest.now }
 {
-    run(here, |c| c == '#')
+    eat_while(here, |c| c == '#')
 }
 
 // Whether a raw string begins here, whether it ends or not.

@@ -8,7 +8,7 @@ use Rattle.std.proofs.lemmas.Option.{same_Some}
 use Rattle.text_cut.specs.Runs.{starts, front, size, AllPass}
 use Rattle.text_cut.specs.Place.{place}
 use Rattle.text_cut.proofs.Runs.{front_of}
-use Rattle.text_cut.proofs.Options.{chosen, none_some}
+use Rattle.text_cut.proofs.OptionLaws.{chosen, none_some}
 use Rattle.script_tokens.specs.Words.{continues_word}
 use Rattle.script_tokens.specs.ReadTokens.{number_of, number_behind, number_at}
 use Rattle.script_tokens.proofs.Characters.{digits_end}

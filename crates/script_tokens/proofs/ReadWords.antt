@@ -6,7 +6,7 @@ use Rattle.text_cut.specs.Runs.{starts, front, size, AllPass}
 use Rattle.text_cut.specs.Place.{Place, place, past, Took}
 use Rattle.text_cut.proofs.Runs.{front_of, front_is}
 use Rattle.text_cut.proofs.Rules.{past_is}
-use Rattle.text_cut.proofs.Options.{chosen, none_some}
+use Rattle.text_cut.proofs.OptionLaws.{chosen, none_some}
 use Rattle.script_tokens.specs.Words.{begins_word, continues_word, IsWord}
 use Rattle.script_tokens.specs.ReadTokens.{word_at}
 use Rattle.script_tokens.proofs.Characters.{word_begins, word_continues, begins_continues}

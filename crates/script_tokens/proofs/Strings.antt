@@ -10,7 +10,7 @@ use Rattle.text_cut.specs.Rules.{past_word}
 use Rattle.text_cut.proofs.Sizes.{size_append}
 use Rattle.text_cut.proofs.Runs.{front_of, behind_of, front_is}
 use Rattle.text_cut.proofs.Rules.{took_none, took_both, word_found, word_is, past_is}
-use Rattle.text_cut.proofs.Options.{mapped, chosen, none_some}
+use Rattle.text_cut.proofs.OptionLaws.{mapped, chosen, none_some}
 use Rattle.syn_trees.specs.StringToken.{Quoting, Plain, Raw, IsQuoted, IsStringToken}
 use Rattle.syn_trees.specs.ReadString.{token_end}
 use Rattle.syn_trees.proofs.Tokens.{token_found, TokenIs, token_is}

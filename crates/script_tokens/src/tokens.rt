@@ -9,7 +9,7 @@ ghost use Rattle.script_tokens.specs.Words.{begins_word, continues_word};
 ghost use Rattle.script_tokens.specs.ReadTokens.{past_line, past_comment, past_keyword, word_at, string_at, number_at};
 
 use syn_trees::string_token;
-use text_cut::{Cursor, begins_with, blanks, run, starts_with, text_between, word};
+use text_cut::{Cursor, begins_with, blanks, eat, eat_while, starts_with, text_between};
 use unicode_ident::{is_xid_continue, is_xid_start};
 
 /// Returns the place behind a line feed; `None` where none stands here.
@@ -18,7 +18,7 @@ pub fn line_feed(here: Cursor<'_>) -> Option<Cursor<'_>>
     ensures value { option_map seen result ≡ past_word (10 ∷ []) (seen here.entry) }
     ensures shorter { IfSome result (λ e. length e.rest.now + 1 ≤ length here.entry.rest.now) }
 {
-    word(here, "\n")
+    eat(here, "\n")
 }
 
 /// Returns the place behind a comment, `#` and all up to the end of its line; where there is none, the place itself.
@@ -29,7 +29,7 @@ pub fn comment(here: Cursor<'_>) -> Cursor<'_>
     if !starts_with(here, '#') {
         return here;
     }
-    run(here, |c| c != '\n')
+    eat_while(here, |c| c != '\n')
 }
 
 // Whether a character that goes on a word stands here.
@@ -44,7 +44,7 @@ pub fn keyword<'a>(here: Cursor<'a>, text: &str) -> Option<Cursor<'a>>
     ensures value { option_map seen result ≡ past_keyword (chars text.now) (seen here.entry) }
     ensures shorter { IfSome result (λ e. length e.rest.now + length (chars text.now) ≤ length here.entry.rest.now) }
 {
-    let behind = word(here, text)?;
+    let behind = eat(here, text)?;
     if continues_word(behind) {
         return None;
     }
@@ -71,7 +71,7 @@ fn word_end(here: Cursor<'_>) -> Cursor<'_>
     ensures value { seen result ≡ past continues_word (seen here.entry) }
     ensures shorter { length result.rest.now ≤ length here.entry.rest.now }
 {
-    run(here, |c| is_xid_continue(c))
+    eat_while(here, |c| is_xid_continue(c))
 }
 
 /// Returns the word that stands here, as long as it goes on, and the place behind it; `None` where none begins here.
@@ -102,7 +102,7 @@ fn digits_end(here: Cursor<'_>) -> Cursor<'_>
     ensures value { seen result ≡ past is_ascii_digit (seen here.entry) }
     ensures shorter { length result.rest.now ≤ length here.entry.rest.now }
 {
-    run(here, |c| c.is_ascii_digit())
+    eat_while(here, |c| c.is_ascii_digit())
 }
 
 /// Returns the number of 32 bits that digits write here, with nothing that goes on a word behind them, and the place behind it.

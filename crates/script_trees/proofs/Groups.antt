@@ -3,7 +3,7 @@ use Rattle.std.proofs.Common.{◌≡◌, ℕ, zero, suc, ◌+◌, ◌≤◌, ◌
 use Rattle.std.specs.Option.{option_and_then}
 use Rattle.std.proofs.lemmas.Bool.{ltb-true}
 use Rattle.std.proofs.lemmas.Option.{option_and_then_some, same_Some}
-use Rattle.text_cut.proofs.Options.{none_some}
+use Rattle.text_cut.proofs.OptionLaws.{none_some}
 use Rattle.syn_trees.specs.declared.token_tree.TokenTree.{TokenTree, Subtree}
 use Rattle.script_trees.specs.declared.builder.Frame.{Frame}
 use Rattle.script_trees.specs.declared.token.Bracket.{Bracket}

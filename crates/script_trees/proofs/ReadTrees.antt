@@ -9,7 +9,7 @@ use Rattle.text_cut.specs.declared.cursor.Cursor.{Cursor}
 use Rattle.text_cut.specs.Reading.{texts, items}
 use Rattle.text_cut.specs.Many.{many_within, ManyAre, ManySoFar}
 use Rattle.text_cut.proofs.Many.{many_found, many_are, many_stops, many_begins, many_more, many_ends, same_many, piece_shorter}
-use Rattle.text_cut.proofs.Options.{mapped}
+use Rattle.text_cut.proofs.OptionLaws.{mapped}
 use Rattle.syn_trees.specs.declared.token_tree.TokenTree.{TokenTree}
 use Rattle.script_trees.specs.declared.token.Token.{Token}
 use Rattle.script_trees.specs.Tokens.{IsTok}

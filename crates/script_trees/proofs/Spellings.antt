@@ -7,7 +7,7 @@ use Rattle.std.proofs.lemmas.Bool.{eqb-true}
 use Rattle.std.proofs.lemmas.Option.{same_Some}
 use Rattle.text_cut.specs.Runs.{starts, front, behind, size, is_blank, IsLongest}
 use Rattle.text_cut.specs.Place.{Place, place, past, Took}
-use Rattle.text_cut.proofs.Options.{mapped, chosen, none_some}
+use Rattle.text_cut.proofs.OptionLaws.{mapped, chosen, none_some}
 use Rattle.text_cut.proofs.Rules.{took_one, past_is, past_run}
 use Rattle.text_cut.proofs.Runs.{front_is, front_of}
 use Rattle.syn_trees.specs.StringToken.{Quoting, Plain, Raw, IsQuoted}

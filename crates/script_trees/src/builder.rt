@@ -39,7 +39,7 @@ impl Model for Builder {
 }
 
 // The greatest number of groups that may be open.
-const MOST: usize = 128;
+const MAX_DEPTH: usize = 128;
 
 // Whether two brackets are of one kind.
 fn is_same(bracket: Bracket, other: Bracket) -> bool
@@ -77,7 +77,7 @@ impl Builder {
     fn begin(&mut self, bracket: Bracket) -> Result<bool, AllocError>
         ensures { IfOk result (λ taken. (if taken then Some self.new else None) ≡ step self.old (AsOpen bracket)) }
     {
-        if self.frames.len() >= MOST {
+        if self.frames.len() >= MAX_DEPTH {
             return Ok(false);
         }
         let before = std::mem::replace(&mut self.trees, Items::new(self.alloc));

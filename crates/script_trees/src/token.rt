@@ -14,7 +14,7 @@ use script_tokens::plain_word;
 use std::alloc::{AllocError, Global};
 use sym_core::Symbol;
 use syn_trees::{Spacing, TokenTree, TtLiteral, quoted_text};
-use text_cut::{Cursor, begins_with, blanks, next, run, starts_with, text_between, word};
+use text_cut::{Cursor, begins_with, blanks, eat, eat_while, next, starts_with, text_between};
 use unicode_ident::is_xid_continue;
 
 /// What a group stands in.
@@ -60,14 +60,14 @@ fn literal_of(alloc: Global, text: &str) -> Result<Token, AllocError>
 fn raw_letter(here: Cursor<'_>) -> Option<Cursor<'_>>
     ensures { option_map seen result ≡ past_word (114 ∷ []) (seen here.entry) }
 {
-    word(here, "r")
+    eat(here, "r")
 }
 
 // The place behind the `#` that stand here.
 fn hashes_end(here: Cursor<'_>) -> Cursor<'_>
     ensures { seen result ≡ past (λ c. c == 35) (seen here.entry) }
 {
-    run(here, |c| c == '#')
+    eat_while(here, |c| c == '#')
 }
 
 // Whether an `r` and a raw string's start stand here.
@@ -94,7 +94,7 @@ fn word_end(here: Cursor<'_>) -> Cursor<'_>
     ensures behind { IsBehind (seen here.entry) (seen result) }
     ensures shorter { length result.rest.now ≤ length here.entry.rest.now }
 {
-    run(here, |c| is_xid_continue(c))
+    eat_while(here, |c| is_xid_continue(c))
 }
 
 // A digit and the characters that go on a word behind it, and the place behind them.

@@ -13,6 +13,13 @@ use text_cut::Cursor;
 /// closed, or is closed by another bracket, or more than 128 groups are open at a place.
 ///
 /// All tokens that stand here are read, so that none stands at the place behind them.
+///
+/// ```
+/// let (trees, end) = read_trees(alloc, begin("all(a)\n"))?.expect(&rt, "trees");
+/// assert_eq!(rt; trees.len(), 2);
+/// assert_eq!(rt; end.rest, "\n");
+/// assert!(rt; read_trees(alloc, begin("all(a"))?.is_none());
+/// ```
 pub fn read_trees<'a>(
     alloc: Global,
     here: Cursor<'a>,
@@ -117,6 +124,16 @@ mod tests {
         for (text, want) in cases {
             assert_eq!(rt; told(rt.alloc(), text)?.as_str(), want, "of {text}");
         }
+        Ok(())
+    }
+
+    #[test]
+    fn reads_up_to_the_end_of_a_line(rt: HostRuntime) -> Result<(), Fail> {
+        let alloc = rt.alloc();
+        let (trees, end) = read_trees(alloc, begin("all(a)\n"))?.expect(&rt, "trees");
+        assert_eq!(rt; trees.len(), 2);
+        assert_eq!(rt; end.rest, "\n");
+        assert!(rt; read_trees(alloc, begin("all(a"))?.is_none());
         Ok(())
     }
 

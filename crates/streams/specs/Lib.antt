@@ -1,4 +1,4 @@
 pub mod Streams
 pub mod Memory
 pub mod StdStreams
-pub mod Exchange
+pub mod ReadWrite

@@ -2,14 +2,22 @@ ghost use Rattle.std.specs.Prelude.{◌≡◌, ◌<◌, ◌≤◌, ◌⊎◌, �
 ghost use Rattle.std.specs.Io.{ReadsAtMost, WritesAtMost};
 ghost use Rattle.std.specs.Io.KnownBytes.{ReadConsumes, WriteAppends};
 ghost use Rattle.causes.specs.Causes.{HasCause};
-ghost use Rattle.streams.specs.Streams.{StaysTold, WritesSome};
-ghost use Rattle.streams.specs.Memory.{new_source, given, after_read, new_sink, taken, after_write};
+ghost use Rattle.streams.specs.Streams.{StaysKnown, WritesSome};
+ghost use Rattle.streams.specs.Memory.{source_state, new_source, given, after_read, sink_state, new_sink, taken, after_write};
 
 use crate::{ReadFailed, Sink, Source, WriteFailed};
 use std::alloc::{AllocError, Global};
 use std::marker::Model;
 
 /// A source over bytes in memory, which gives a piece at a time and fails in chosen calls.
+///
+/// ```
+/// let mut source = MemSource::new(b"abcd".to_vec(alloc)?, 3, [1].to_vec(alloc)?);
+/// let mut buffer = [0; 5];
+/// assert_eq!(source.read(&mut buffer).ok(), Some(3));     // `abc`
+/// assert_eq!(source.read(&mut buffer).ok(), None);        // call 1 fails
+/// assert_eq!(source.read(&mut buffer).ok(), Some(1));     // `d`
+/// ```
 #[derive(Debug, Drop)]
 pub struct MemSource {
     bytes: Vec<u8>,
@@ -22,9 +30,9 @@ pub struct MemSource {
 
 impl Model for MemSource {
     ghost use Rattle.std.specs.Prelude.{◌≤◌, drop, vec_len};
-    ghost use Rattle.streams.specs.Memory.{SourceState};
+    ghost use Rattle.streams.specs.Memory.{MemSourceState};
 
-    ghost Value = { SourceState };
+    ghost Value = { MemSourceState };
 
     ghost view = { λ s. record { left = drop s.at s.bytes.items; piece = s.piece; failing = s.failing.items; call = s.call; faults = s.faults } };
 
@@ -50,9 +58,7 @@ impl MemSource {
 }
 
 impl Source for MemSource {
-    ghost left = { λ source. Some source.left };
-
-    ghost faults = { λ source. source.faults };
+    ghost state = { source_state };
 
     /// Gives the least of the piece, the buffer's length and the bytes left.
     ///
@@ -60,7 +66,7 @@ impl Source for MemSource {
     fn read(&mut self, buf: &mut [u8]) -> Result<usize, ReadFailed>
         ensures within { ReadsAtMost result buf.new }
         ensures bytes { ReadConsumes (Some self.old.left) (Some self.new.left) result buf.new }
-        ensures told { StaysTold (Some self.old.left) (Some self.new.left) }
+        ensures known { StaysKnown (Some self.old.left) (Some self.new.left) }
         ensures cause { HasCause self.old.faults self.new.faults result }
 
         ensures fails { IsErr result ↔ Contains self.old.failing self.old.call }
@@ -91,6 +97,12 @@ fn copy_front(from: &[u8], to: &mut [u8], count: usize)
 }
 
 /// A sink that keeps bytes in memory up to a limit, takes a piece at a time and fails in chosen calls.
+///
+/// ```
+/// let mut sink = MemSink::new(alloc, 10, 4, Vec::new(alloc))?;
+/// assert_eq!(sink.write(b"abcdefgh").ok(), Some(4));
+/// assert_eq!(sink.bytes(), b"abcd".as_slice());
+/// ```
 #[derive(Debug, Drop)]
 pub struct MemSink {
     bytes: Vec<u8>,
@@ -103,9 +115,9 @@ pub struct MemSink {
 
 impl Model for MemSink {
     ghost use Rattle.std.specs.Prelude.{◌+◌, ◌≤◌, vec_len, vec_capacity};
-    ghost use Rattle.streams.specs.Memory.{SinkState};
+    ghost use Rattle.streams.specs.Memory.{MemSinkState};
 
-    ghost Value = { SinkState };
+    ghost Value = { MemSinkState };
 
     ghost view = { λ s. record { bytes = s.bytes.items; room = s.room; piece = s.piece; failing = s.failing.items; call = s.call; faults = s.faults } };
 
@@ -145,9 +157,7 @@ impl MemSink {
 }
 
 impl Sink for MemSink {
-    ghost written = { λ sink. Some sink.bytes };
-
-    ghost faults = { λ sink. sink.faults };
+    ghost state = { sink_state };
 
     /// Takes the least of the piece that it was made with, the bytes handed in and the room left. It takes no memory.
     ///
@@ -156,7 +166,7 @@ impl Sink for MemSink {
         ensures within { WritesAtMost result piece.now }
         ensures some { WritesSome result piece.now }
         ensures bytes { WriteAppends (Some self.old.bytes) (Some self.new.bytes) result piece.now }
-        ensures told { StaysTold (Some self.old.bytes) (Some self.new.bytes) }
+        ensures known { StaysKnown (Some self.old.bytes) (Some self.new.bytes) }
         ensures cause { HasCause self.old.faults self.new.faults result }
 
         ensures fails { IsErr result ↔ (Contains self.old.failing self.old.call ⊎ ((0 < length piece.now) × (self.old.room ≡ 0))) }
@@ -183,6 +193,22 @@ impl Sink for MemSink {
 mod tests {
     use super::*;
     use std::test::Fail;
+
+    // The examples of the source and the sink.
+    #[test]
+    fn moves_pieces(rt: HostRuntime) -> Result<(), Fail> {
+        let alloc = rt.alloc();
+        let mut source = MemSource::new(b"abcd".to_vec(alloc)?, 3, [1].to_vec(alloc)?);
+        let mut buffer = [0; 5];
+        assert_eq!(rt; source.read(&mut buffer).ok(), Some(3));
+        assert_eq!(rt; source.read(&mut buffer).ok(), None);
+        assert_eq!(rt; source.read(&mut buffer).ok(), Some(1));
+
+        let mut sink = MemSink::new(alloc, 10, 4, Vec::new(alloc))?;
+        assert_eq!(rt; sink.write(b"abcdefgh").ok(), Some(4));
+        assert_eq!(rt; sink.bytes(), b"abcd".as_slice());
+        Ok(())
+    }
 
     #[test]
     fn source_gives_pieces_but_in_the_failing_call(rt: HostRuntime) -> Result<(), Fail> {

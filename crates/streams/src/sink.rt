@@ -1,9 +1,7 @@
-ghost use Rattle.std.specs.Prelude.{ℕ, List};
 ghost use Rattle.std.specs.Io.{WritesAtMost};
 ghost use Rattle.std.specs.Io.KnownBytes.{WriteAppends};
-ghost use Rattle.std.specs.declared.option.Option.{Option};
 ghost use Rattle.causes.specs.Causes.{HasCause};
-ghost use Rattle.streams.specs.Streams.{StaysTold, WritesSome};
+ghost use Rattle.streams.specs.Streams.{SinkState, StaysKnown, WritesSome};
 
 use thiserror::Error;
 
@@ -14,11 +12,8 @@ pub struct WriteFailed;
 
 /// What bytes are written to.
 pub trait Sink {
-    /// The bytes written so far, where the sink tells them.
-    ghost written: { Self → Option (List ℕ) };
-
-    /// How often writing has failed.
-    ghost faults: { Self → ℕ };
+    /// The bytes written so far, where the sink's content is known, and how often writing has failed.
+    ghost state: { Self → SinkState };
 
     /// Writes a front of the piece and answers how many bytes it wrote: at least one of a piece that is not empty.
     ///
@@ -26,7 +21,7 @@ pub trait Sink {
     fn write(&mut self, piece: &[u8]) -> Result<usize, WriteFailed>
         ensures within { WritesAtMost result piece.now }
         ensures some { WritesSome result piece.now }
-        ensures bytes { WriteAppends (written self.old) (written self.new) result piece.now }
-        ensures told { StaysTold (written self.old) (written self.new) }
-        ensures cause { HasCause (faults self.old) (faults self.new) result };
+        ensures bytes { WriteAppends (state self.old).written (state self.new).written result piece.now }
+        ensures known { StaysKnown (state self.old).written (state self.new).written }
+        ensures cause { HasCause (state self.old).faults (state self.new).faults result };
 }

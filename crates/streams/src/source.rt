@@ -1,9 +1,7 @@
-ghost use Rattle.std.specs.Prelude.{ℕ, List};
 ghost use Rattle.std.specs.Io.{ReadsAtMost};
 ghost use Rattle.std.specs.Io.KnownBytes.{ReadConsumes};
-ghost use Rattle.std.specs.declared.option.Option.{Option};
 ghost use Rattle.causes.specs.Causes.{HasCause};
-ghost use Rattle.streams.specs.Streams.{StaysTold};
+ghost use Rattle.streams.specs.Streams.{SourceState, StaysKnown};
 
 use thiserror::Error;
 
@@ -14,11 +12,8 @@ pub struct ReadFailed;
 
 /// What bytes are read from.
 pub trait Source {
-    /// The bytes still to come, where the source tells them.
-    ghost left: { Self → Option (List ℕ) };
-
-    /// How often reading has failed.
-    ghost faults: { Self → ℕ };
+    /// The bytes still to come, where the source's content is known, and how often reading has failed.
+    ghost state: { Self → SourceState };
 
     /// Reads into the front of the buffer and answers how many bytes it read. With a buffer that is not empty, 0 is
     /// the end of the input.
@@ -26,7 +21,7 @@ pub trait Source {
     /// Fails only where the count of faults rises, or stands at its last value, and then takes no byte.
     fn read(&mut self, buf: &mut [u8]) -> Result<usize, ReadFailed>
         ensures within { ReadsAtMost result buf.new }
-        ensures bytes { ReadConsumes (left self.old) (left self.new) result buf.new }
-        ensures told { StaysTold (left self.old) (left self.new) }
-        ensures cause { HasCause (faults self.old) (faults self.new) result };
+        ensures bytes { ReadConsumes (state self.old).left (state self.new).left result buf.new }
+        ensures known { StaysKnown (state self.old).left (state self.new).left }
+        ensures cause { HasCause (state self.old).faults (state self.new).faults result };
 }

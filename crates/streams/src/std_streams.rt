@@ -2,13 +2,13 @@ ghost use Rattle.std.specs.Prelude.{◌≡◌, length, None};
 ghost use Rattle.std.specs.Io.{ReadsAtMost, WritesAtMost};
 ghost use Rattle.std.specs.Io.KnownBytes.{ReadConsumes, WriteAppends};
 ghost use Rattle.causes.specs.Causes.{HasCause};
-ghost use Rattle.streams.specs.Streams.{StaysTold, WritesSome};
-ghost use Rattle.streams.specs.StdStreams.{reader_of, read_faults, writer_of, write_faults};
+ghost use Rattle.streams.specs.Streams.{StaysKnown, WritesSome};
+ghost use Rattle.streams.specs.StdStreams.{reader_of, read_faults, std_source_state, writer_of, write_faults, std_sink_state};
 
 use crate::{ReadFailed, Sink, Source, WriteFailed};
 use std::io::{Read, Write};
 
-/// A reader of the standard library as a source. It tells none of its bytes, and each error of the reader is a fault.
+/// A reader of the standard library as a source. Its content is not known, and each error of the reader is a fault.
 #[derive(Debug, Drop)]
 pub struct StdSource<R> {
     reader: R,
@@ -26,18 +26,16 @@ impl<R: Read> StdSource<R> {
 }
 
 impl<R: Read> Source for StdSource<R> {
-    ghost left = { λ _. None };
-
-    ghost faults = { read_faults };
+    ghost state = { std_source_state };
 
     /// Reads from the reader, once. Fails where the reader does.
     fn read(&mut self, buf: &mut [u8]) -> Result<usize, ReadFailed>
         ensures within { ReadsAtMost result buf.new }
         ensures bytes { ReadConsumes None None result buf.new }
-        ensures told { StaysTold None None }
+        ensures known { StaysKnown None None }
         ensures cause { HasCause (read_faults self.old) (read_faults self.new) result }
 
-        // What the reader tells is passed on as it gave it.
+        // What is known of the reader's content is passed on as it gave it.
         ensures passed_on { ReadConsumes (R.remaining (reader_of self.old)) (R.remaining (reader_of self.new)) result buf.new }
     {
         match self.reader.read(buf) {
@@ -50,7 +48,7 @@ impl<R: Read> Source for StdSource<R> {
     }
 }
 
-/// A writer of the standard library as a sink. It tells none of its bytes. Each error of the writer is a fault, and so
+/// A writer of the standard library as a sink. Its content is not known. Each error of the writer is a fault, and so
 /// is an answer that it took nothing of a piece that is not empty.
 #[derive(Debug, Drop)]
 pub struct StdSink<W> {
@@ -69,16 +67,14 @@ impl<W: Write> StdSink<W> {
 }
 
 impl<W: Write> Sink for StdSink<W> {
-    ghost written = { λ _. None };
-
-    ghost faults = { write_faults };
+    ghost state = { std_sink_state };
 
     /// Writes to the writer, once. Fails where the writer does, or takes nothing of a piece that is not empty.
     fn write(&mut self, piece: &[u8]) -> Result<usize, WriteFailed>
         ensures within { WritesAtMost result piece.now }
         ensures some { WritesSome result piece.now }
         ensures bytes { WriteAppends None None result piece.now }
-        ensures told { StaysTold None None }
+        ensures known { StaysKnown None None }
         ensures cause { HasCause (write_faults self.old) (write_faults self.new) result }
 
         // The writer was handed the piece, and holds what it took of it.

@@ -6,6 +6,15 @@ use std::fmt;
 use std::fmt::Display;
 
 /// What a thing in source is named by.
+///
+/// ```
+/// let total = Name::new(rt.alloc(), "total")?;
+/// let field = Name::tuple_field(3);
+/// let fresh = Name::fresh(2);
+/// let text = format!(in rt.alloc(); "{total} {field} {fresh}")?;
+/// assert_eq!(rt; text.as_str(), "total 3 #2");
+/// assert!(rt; fresh.symbol().is_none());
+/// ```
 #[derive(Clone, PartialEq, Eq, Hash, Debug, Drop)]
 pub enum Name {
     /// A name that is written out.
@@ -92,23 +101,33 @@ mod tests {
 
     #[test]
     fn writes_each_kind(rt: HostRuntime) -> Result<(), Fail> {
-        let text = Name::new(rt.alloc(), "x")?;
+        let total = Name::new(rt.alloc(), "total")?;
         let field = Name::tuple_field(3);
         let fresh = Name::fresh(2);
-        assert_eq!(rt;
-            format!(in rt.alloc(); "{text} {field} {fresh}")?.as_str(),
-            "x 3 #2"
-        );
+        let text = format!(in rt.alloc(); "{total} {field} {fresh}")?;
+        assert_eq!(rt; text.as_str(), "total 3 #2");
+        assert!(rt; fresh.symbol().is_none());
+        Ok(())
+    }
 
+    #[test]
+    fn has_a_symbol(rt: HostRuntime) -> Result<(), Fail> {
         let x = Symbol::new(rt.alloc(), "x")?;
-        assert_eq!(rt; text.symbol(), Some(&x));
-        assert_eq!(rt; field.symbol(), None);
-        assert_eq!(rt; fresh.symbol(), None);
-
+        let text = Name::new(rt.alloc(), "x")?;
+        assert!(rt; text.symbol().is_some_and(|symbol| symbol.as_str() == "x"));
         assert!(rt; same(&text, &Name::from_symbol(x)));
-        for name in [&text, &field, &fresh] {
-            assert!(rt; same(name, &copy(name)?));
-        }
+        assert!(rt; Name::tuple_field(3).symbol().is_none());
+        Ok(())
+    }
+
+    #[test]
+    fn equals_its_copy(rt: HostRuntime) -> Result<(), Fail> {
+        let text = Name::new(rt.alloc(), "x")?;
+        let field = Name::tuple_field(2);
+        let fresh = Name::fresh(2);
+        assert!(rt; same(&text, &copy(&text)?));
+        assert!(rt; same(&field, &copy(&field)?));
+        assert!(rt; same(&fresh, &copy(&fresh)?));
         assert!(rt; !same(&field, &fresh));
         Ok(())
     }

@@ -18,6 +18,15 @@ use std::rc::RcStr;
 /// Shared text: a copy shares the text of its original, and takes no more memory for it.
 ///
 /// Two symbols are equal, ordered and hashed as their bytes are.
+///
+/// ```
+/// let net = Symbol::new(rt.alloc(), "net")?;
+/// let copy = net.clone()?;
+/// assert_eq!(rt; net.as_str(), "net");
+/// assert!(rt; net == copy);
+/// assert!(rt; net < Symbol::new(rt.alloc(), "nets")?);
+/// assert!(rt; Symbol::new(rt.alloc(), "all")?.is_all());
+/// ```
 #[derive(Drop)]
 pub struct Symbol {
     text: RcStr,
@@ -177,21 +186,34 @@ mod tests {
     #[test]
     fn keeps_its_text(rt: HostRuntime) -> Result<(), Fail> {
         let net = Symbol::new(rt.alloc(), "net")?;
-        let all = Symbol::new(rt.alloc(), "all")?;
+        let copy = net.clone()?;
         assert_eq!(rt; net.as_str(), "net");
-        assert_eq!(rt;
-            format!(in rt.alloc(); "{net} {net:?}")?.as_str(),
-            "net \"net\""
-        );
-        assert!(rt; all.is_all());
+        assert!(rt; net == copy);
+        assert!(rt; net < Symbol::new(rt.alloc(), "nets")?);
+        assert!(rt; Symbol::new(rt.alloc(), "all")?.is_all());
+        Ok(())
+    }
+
+    #[test]
+    fn tells_words(rt: HostRuntime) -> Result<(), Fail> {
+        let net = Symbol::new(rt.alloc(), "net")?;
         assert!(rt; !net.is_all());
         assert!(rt; Symbol::new(rt.alloc(), "any")?.is_any());
         assert!(rt; Symbol::new(rt.alloc(), "not")?.is_not());
         assert!(rt; Symbol::new(rt.alloc(), "true")?.is_true());
         assert!(rt; Symbol::new(rt.alloc(), "false")?.is_false());
+        Ok(())
+    }
+
+    #[test]
+    fn is_its_text(rt: HostRuntime) -> Result<(), Fail> {
+        let net = Symbol::new(rt.alloc(), "net")?;
         assert!(rt; same(&net, &copy(&net)?));
-        assert!(rt; !same(&net, &all));
-        assert!(rt; all < net);
+        assert!(rt; !same(&net, &Symbol::new(rt.alloc(), "all")?));
+        assert_eq!(rt;
+            format!(in rt.alloc(); "{net} {net:?}")?.as_str(),
+            "net \"net\""
+        );
         Ok(())
     }
 }

@@ -1,4 +1,6 @@
 /// A range of a text, in bytes from its begin: from `start` up to and without `end`.
+///
+/// Nothing keeps the start at or before the end: a call that returns a range says where in the text it lies.
 #[derive(Clone, Copy, PartialEq, Eq, Hash, Debug)]
 pub struct TextRange {
     /// The offset of the first byte.

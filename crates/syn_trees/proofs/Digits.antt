@@ -9,7 +9,7 @@ use Rattle.std.proofs.Math.Utf8.{encode}
 use Rattle.std.proofs.lemmas.Str.{chars_past_char, chars-nil}
 use Rattle.std.proofs.lemmas.List.Elements.{filter-append}
 use Rattle.syn_trees.specs.Escape.{is_hex, digits_of}
-use Rattle.syn_trees.specs.ReadString.{number_of}
+use Rattle.syn_trees.specs.ReadString.{hex_number}
 use Rattle.syn_trees.proofs.Units.{passes}
 
 -- these characters of a text were read: their digits write this number, and there are so many of them, six at most
@@ -73,14 +73,14 @@ number_small text number count read left room so_far =
     omega (arith, so_far.value, digits_value-lt 16 (digits_of read) (all_digits read), below_power (length (digits_of read)) (omega (arith, room, so_far.count_is)))
 
 -- all characters are read
-pub digits_end : (text : List ℕ) (number count : ℕ) (read : List ℕ) → DigitsSoFar text number count read [] → Some number ≡ number_of (digits_of text)
+pub digits_end : (text : List ℕ) (number count : ℕ) (read : List ℕ) → DigitsSoFar text number count read [] → Some number ≡ hex_number (digits_of text)
 digits_end text number count read so_far =
     let same : text ≡ read = so_far.whole ∙ append-nil read in
-    subst (λ l. Some number ≡ number_of (digits_of l)) (sym same)
+    subst (λ l. Some number ≡ hex_number (digits_of l)) (sym same)
     (sym (ap (λ b. cond b (Some (digits_value 16 (digits_of read))) None) (passes (length (digits_of read)) 6 (omega (arith, so_far.few, so_far.count_is))) ∙ ap (λ n. Some n) (sym so_far.value)))
 
 -- a seventh digit is too many
-pub digits_stop : (text : List ℕ) (number count : ℕ) (read : List ℕ) (c : ℕ) (left : List ℕ) → is_hex c ≡ true → count ≡ 6 → DigitsSoFar text number count read (c ∷ left) → None ≡ number_of (digits_of text)
+pub digits_stop : (text : List ℕ) (number count : ℕ) (read : List ℕ) (c : ℕ) (left : List ℕ) → is_hex c ≡ true → count ≡ 6 → DigitsSoFar text number count read (c ∷ left) → None ≡ hex_number (digits_of text)
 digits_stop text number count read c left is full so_far =
     sym (ap (λ b. cond b (Some (digits_value 16 (digits_of text))) None) (fails (length (digits_of text)) 6 many))
   where
@@ -105,6 +105,6 @@ pub digits_step : (text : List ℕ) (number count : ℕ) (read bs rest : List �
 digits_step text number count read bs rest c utf8 same so_far = subst (λ l. DigitsSoFar text number count read l) (chars_past_char bs rest c utf8 same) so_far
 
 -- no bytes are left
-pub digits_ended : (text : List ℕ) (number count : ℕ) (read bs : List ℕ) → length bs ≡ 0 → DigitsSoFar text number count read (chars bs) → Some number ≡ number_of (digits_of text)
+pub digits_ended : (text : List ℕ) (number count : ℕ) (read bs : List ℕ) → length bs ≡ 0 → DigitsSoFar text number count read (chars bs) → Some number ≡ hex_number (digits_of text)
 digits_ended text number count read [] none so_far = digits_end text number count read (subst (λ l. DigitsSoFar text number count read l) chars-nil so_far)
 digits_ended text number count read (b ∷ bs) none so_far = absurd (omega (arith, none))

@@ -9,3 +9,5 @@ mod EscapeExamples
 pub mod Literals
 pub mod Values
 pub mod Quotes
+pub mod Lengths
+pub mod AsWritten

@@ -6,7 +6,7 @@ use Rattle.std.proofs.lemmas.Option.{same_Some}
 use Rattle.std.proofs.lemmas.Str.{encodes-chars}
 use Rattle.text_cut.specs.Runs.{starts, front, behind, size, AllPass}
 use Rattle.text_cut.specs.Place.{Place, place, past, Took}
-use Rattle.text_cut.proofs.Options.{none_some}
+use Rattle.text_cut.proofs.OptionLaws.{none_some}
 use Rattle.text_cut.proofs.Rules.{took_same}
 use Rattle.text_cut.proofs.Runs.{front_behind, front_is}
 use Rattle.text_cut.proofs.Sizes.{size_bytes}

@@ -5,7 +5,7 @@ use Rattle.std.proofs.lemmas.Bool.Decides.{nat_tests}
 use Rattle.std.proofs.lemmas.Option.{same_Some}
 use Rattle.text_cut.specs.Runs.{size}
 use Rattle.text_cut.specs.Place.{Place, place, Took}
-use Rattle.text_cut.proofs.Options.{chosen, none_some}
+use Rattle.text_cut.proofs.OptionLaws.{chosen, none_some}
 use Rattle.text_cut.proofs.Rules.{took_none, took_one, took_both}
 use Rattle.syn_trees.specs.StringToken.{is_ordinary, IsInside}
 use Rattle.syn_trees.specs.ReadString.{plain_in}

@@ -5,7 +5,7 @@ use Rattle.std.specs.Str.{IsUtf8, chars, encode_utf8_all}
 use Rattle.std.proofs.lemmas.Str.{encodes-chars}
 use Rattle.text_cut.specs.Runs.{size}
 use Rattle.text_cut.specs.Place.{Place, place, Took, IsBehind}
-use Rattle.text_cut.proofs.Options.{mapped}
+use Rattle.text_cut.proofs.OptionLaws.{mapped}
 use Rattle.syn_trees.specs.StringToken.{Quoting, IsQuoted}
 use Rattle.syn_trees.specs.Literal.{opening}
 use Rattle.syn_trees.specs.ReadString.{Found, token_at, token_end}

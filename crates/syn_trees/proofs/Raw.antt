@@ -6,7 +6,7 @@ use Rattle.text_cut.specs.Runs.{size}
 use Rattle.text_cut.specs.Place.{Place, place, Took}
 use Rattle.text_cut.specs.Rules.{word_in, past_word}
 use Rattle.text_cut.proofs.Lists.{longer_begins}
-use Rattle.text_cut.proofs.Options.{chosen, none_some}
+use Rattle.text_cut.proofs.OptionLaws.{chosen, none_some}
 use Rattle.text_cut.proofs.Rules.{took_none, took_one, took_both, word_found, word_is}
 use Rattle.syn_trees.specs.StringToken.{raw_end}
 use Rattle.syn_trees.specs.ReadString.{or_behind, raw_in}

@@ -6,13 +6,13 @@ use Rattle.std.proofs.lemmas.Option.{option_and_then_some, same_Some}
 use Rattle.text_cut.specs.Runs.{front, size, AllPass}
 use Rattle.text_cut.specs.Place.{Place, place, past, Took}
 use Rattle.text_cut.specs.Rules.{past_word}
-use Rattle.text_cut.proofs.Options.{mapped, chosen, none_some}
+use Rattle.text_cut.proofs.OptionLaws.{mapped, chosen, none_some}
 use Rattle.text_cut.proofs.Rules.{took_both, past_is, word_is, past_run}
 use Rattle.text_cut.proofs.Runs.{front_is}
 use Rattle.text_cut.proofs.Sizes.{size_append}
 use Rattle.syn_trees.specs.StringToken.{IsPlain, IsRaw, raw_end, Quoting, Plain, Raw, IsQuoted, IsStringToken}
 use Rattle.syn_trees.specs.Literal.{opening}
-use Rattle.syn_trees.specs.ReadString.{Found, closing, marks_of, plain_in, raw_in, ended, plain_behind, raw_behind, raw_marked, raw_at, found_or, token_at, token_end}
+use Rattle.syn_trees.specs.ReadString.{Found, closing, marks_of, plain_in, raw_in, found_between, plain_behind, raw_behind, raw_marked, raw_at, found_or, token_at, token_end}
 use Rattle.syn_trees.proofs.Plain.{plain_found, PlainIs, plain_is}
 use Rattle.syn_trees.proofs.Raw.{raw_found, RawIs, raw_is}
 
@@ -32,7 +32,7 @@ marks_pass : (marks : ℕ) → AllPass is_mark (replicate marks 35)
 marks_pass zero = tt
 marks_pass (suc marks) = (refl, marks_pass marks)
 
-marks_size : (marks : ℕ) → size (replicate marks 35) ≡ marks
+pub marks_size : (marks : ℕ) → size (replicate marks 35) ≡ marks
 marks_size zero = refl
 marks_size (suc marks) = omega (arith, marks_size marks)
 
@@ -48,8 +48,8 @@ marks_same (c ∷ run) are = subst (λ d. replicate (size (d ∷ run)) 35 ≡ d 
 found_plain : (token inside rest : List ℕ) (at : ℕ) → IsPlain token inside → token_at (place at (token ++ rest)) ≡ Some (found_from Plain (at + 1) inside rest)
 found_plain token inside rest at is =
     ap (λ l. token_at (place at (l ++ rest))) is.whole
-    ∙ (ap (λ l. ended None (place (at + 1) l) (plain_in false (at + 1) l)) (append_assoc inside (34 ∷ []) rest)
-    ∙ ap (λ o. ended None (place (at + 1) (inside ++ (34 ∷ rest))) o) (plain_found inside rest (at + 1) is.are))
+    ∙ (ap (λ l. found_between None (place (at + 1) l) (plain_in false (at + 1) l)) (append_assoc inside (34 ∷ []) rest)
+    ∙ ap (λ o. found_between None (place (at + 1) (inside ++ (34 ∷ rest))) o) (plain_found inside rest (at + 1) is.are))
 
 -- the place past so many marks
 past_marks : (marks at : ℕ) (rest : List ℕ) → past is_mark (place at (replicate marks 35 ++ (34 ∷ rest))) ≡ place (at + marks) (34 ∷ rest)
@@ -67,7 +67,7 @@ found_marked marks at inside rest few first =
     let text = inside ++ (raw_end marks ++ rest) in
     ap (λ b. cond b (option_and_then (raw_behind ((at + marks) - at)) (Some (place ((at + marks) + 1) text))) None) (few_marks marks ((at + marks) - at) count few)
     ∙ (ap (λ n. raw_behind n (place ((at + marks) + 1) text)) count
-    ∙ ap (λ o. ended (Some marks) (place ((at + marks) + 1) text) o) (raw_found marks inside rest ((at + marks) + 1) first))
+    ∙ ap (λ o. found_between (Some marks) (place ((at + marks) + 1) text) o) (raw_found marks inside rest ((at + marks) + 1) first))
 
 -- a raw token is found
 found_raw : (marks : ℕ) (token inside rest : List ℕ) (at : ℕ) → IsRaw marks token inside → token_at (place at (token ++ rest)) ≡ Some (found_from (Raw marks) (((at + 1) + marks) + 1) inside rest)
@@ -86,7 +86,7 @@ parts_found (Raw marks) token inside rest at is =
     found_raw marks token inside rest at is ∙ ap (λ (n : ℕ). Some (found_from (Raw marks) n inside rest)) (omega arith)
 
 -- the bytes of a token
-quoted_size : (quoting : Quoting) (token inside : List ℕ) → IsQuoted quoting token inside → (opening quoting + size inside) + size (closing quoting) ≡ size token
+pub quoted_size : (quoting : Quoting) (token inside : List ℕ) → IsQuoted quoting token inside → (opening quoting + size inside) + size (closing quoting) ≡ size token
 quoted_size Plain token inside is = omega (arith, ap size is.whole, size_append inside (34 ∷ []))
 quoted_size (Raw marks) token inside is =
     omega (arith, ap size is.whole, size_append (replicate marks 35) (34 ∷ (inside ++ raw_end marks)), size_append inside (raw_end marks), marks_size marks)
@@ -111,7 +111,7 @@ pub record PartsAre (p : Place) (found : Found) : Type 0 where
 plain_parts : (p b : Place) (found : Found) → Took p b (34 ∷ []) → plain_behind b ≡ Some found → PartsAre p found
 plain_parts p b found quote_there there = by_ends (plain_in false b.at b.left) refl there
   where
-    by_ends : (o : Option (Place × Place)) → plain_in false b.at b.left ≡ o → ended None b o ≡ Some found → PartsAre p found
+    by_ends : (o : Option (Place × Place)) → plain_in false b.at b.left ≡ o → found_between None b o ≡ Some found → PartsAre p found
     by_ends None e same = absurd (none_some found same)
     by_ends (Some r) e same =
         let is : PlainIs b r = plain_is b r e in
@@ -129,7 +129,7 @@ plain_parts p b found quote_there there = by_ends (plain_in false b.at b.left) r
 raw_parts_by : (p b q : Place) (marks : ℕ) (found : Found) → marks ≤ 255 → Took p b (114 ∷ []) → Took b q (replicate marks 35 ++ 34 ∷ []) → raw_behind marks q ≡ Some found → PartsAre p found
 raw_parts_by p b q marks found few letter quote_there there = by_ends (raw_in marks q.at q.left) refl there
   where
-    by_ends : (o : Option (Place × Place)) → raw_in marks q.at q.left ≡ o → ended (Some marks) q o ≡ Some found → PartsAre p found
+    by_ends : (o : Option (Place × Place)) → raw_in marks q.at q.left ≡ o → found_between (Some marks) q o ≡ Some found → PartsAre p found
     by_ends None e same = absurd (none_some found same)
     by_ends (Some r) e same =
         let is : RawIs marks q r = raw_is marks q r e in

@@ -12,14 +12,14 @@ use Rattle.text_cut.specs.Place.{Place, place, first_in, first, past, Took}
 use Rattle.text_cut.specs.Rules.{past_word, Spells}
 use Rattle.text_cut.specs.Reading.{Spelled, texts, ReadsPieces}
 use Rattle.text_cut.specs.Whole.{read_whole}
-use Rattle.text_cut.proofs.Options.{mapped, chosen, none_some}
+use Rattle.text_cut.proofs.OptionLaws.{mapped, chosen, none_some}
 use Rattle.text_cut.proofs.Pieces.{one_read}
 use Rattle.text_cut.proofs.Rules.{took_none, took_one, took_both, took_same, word_is, past_is, past_run}
 use Rattle.text_cut.proofs.Runs.{front_of, front_is}
 use Rattle.text_cut.proofs.Sizes.{size_append}
 use Rattle.text_cut.proofs.Whole.{no_state, whole_found, whole_is}
 use Rattle.syn_trees.specs.Escape.{is_hex, is_hex_or_underscore, is_space, letter, digits_of, IsUnit, self, by_letter, ascii, unicode, continuation, unit_rule, HasUnits}
-use Rattle.syn_trees.specs.ReadString.{as_unit, ascii_of, ascii_in, number_of, scalar_of, unicode_of, unicode_behind, unicode_at, escape_by, escape_at, unit_at}
+use Rattle.syn_trees.specs.ReadString.{as_unit, ascii_of, ascii_in, hex_number, scalar_of, unicode_of, unicode_behind, unicode_at, escape_by, escape_at, unit_at}
 
 -- two characters that are equal are one
 is_equal : (a b : ℕ) → nat_eq a b ≡ true → a ≡ b
@@ -68,7 +68,7 @@ ascii_found high low rest at stands =
 -- the character of digits among which `_` may stand
 unicode_of_found : (digits : List ℕ) → starts is_hex digits ≡ true → length (digits_of digits) ≤ 6 → IsScalar (digits_value 16 (digits_of digits)) → unicode_of digits ≡ Some (digits_value 16 (digits_of digits))
 unicode_of_found digits begins few is_scalar =
-    ap (λ b. cond b (option_and_then scalar_of (number_of (digits_of digits))) None) begins
+    ap (λ b. cond b (option_and_then scalar_of (hex_number (digits_of digits))) None) begins
     ∙ (ap (λ b. option_and_then scalar_of (cond b (Some (digits_value 16 (digits_of digits))) None)) (passes (length (digits_of digits)) 6 few)
     ∙ ap (λ b. cond b (Some (digits_value 16 (digits_of digits))) None) is_scalar)
 
@@ -154,8 +154,8 @@ record IsScalarOf (digits : List ℕ) (n : ℕ) : Type 0 where
   value : n ≡ digits_value 16 (digits_of digits)
 
 unicode_of_is : (digits : List ℕ) (n : ℕ) → unicode_of digits ≡ Some n → IsScalarOf digits n
-unicode_of_is digits n found = chosen (starts is_hex digits) (option_and_then scalar_of (number_of (digits_of digits))) None (Some n) found
-    (λ begins there. option_and_then_some scalar_of (number_of (digits_of digits)) n there
+unicode_of_is digits n found = chosen (starts is_hex digits) (option_and_then scalar_of (hex_number (digits_of digits))) None (Some n) found
+    (λ begins there. option_and_then_some scalar_of (hex_number (digits_of digits)) n there
     (λ m number stands. chosen (nat_le (length (digits_of digits)) 6) (Some (digits_value 16 (digits_of digits))) None (Some m) number
     (λ few same. chosen (scalar m) (Some m) None (Some n) stands
     (λ is as_is. record {

@@ -6,7 +6,7 @@ use Rattle.std.proofs.lemmas.List.{append-nil, take_at}
 use Rattle.std.proofs.lemmas.Option.{option_and_then_some, same_Some}
 use Rattle.text_cut.specs.Place.{Place, place, Took}
 use Rattle.text_cut.specs.Whole.{read_whole}
-use Rattle.text_cut.proofs.Options.{mapped, chosen, none_some}
+use Rattle.text_cut.proofs.OptionLaws.{mapped, chosen, none_some}
 use Rattle.syn_trees.specs.StringToken.{Quoting, Plain, Raw, IsQuoted}
 use Rattle.syn_trees.specs.Escape.{meant_of}
 use Rattle.syn_trees.specs.Literal.{ValueOf, HasValue, HasNoValue, opening}

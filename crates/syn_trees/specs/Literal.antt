@@ -39,6 +39,10 @@ pub record IsBetweenQuotes (token : List ℕ) (start end : ℕ) : Type 0 where
   pub starts : start ≡ opening quoting
   pub ends : end ≡ start + size inside
 
+-- the value takes no more bytes than what stands between the quotes of the token
+abbrev pub FitsBetweenQuotes : List ℕ → List ℕ → Type 0
+FitsBetweenQuotes token value = (start end : ℕ) → IsBetweenQuotes token start end → start + length value ≤ end
+
 -- the token is raw, or has no `\`
 abbrev pub IsUnescaped : List ℕ → Type 0
 IsUnescaped token = (starts (λ c. nat_eq c 114) (chars token) ≡ true) ⊎ AllPass (λ c. not (nat_eq c 92)) (chars token)

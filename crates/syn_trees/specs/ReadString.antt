@@ -53,17 +53,17 @@ raw_in marks at [] = None
 raw_in marks at (c ∷ cs) = or_behind (place at (c ∷ cs)) (word_in (raw_end marks) at (c ∷ cs)) (raw_in marks (at + len_utf8 c) cs)
 
 -- a token with its end
-abbrev pub ended : Option ℕ → Place → Option (Place × Place) → Option Found
-ended marks from None = None
-ended marks from (Some ends) = Some (record { marks = marks; from = from; to = ends.0; end = ends.1 })
+abbrev pub found_between : Option ℕ → Place → Option (Place × Place) → Option Found
+found_between marks from None = None
+found_between marks from (Some ends) = Some (record { marks = marks; from = from; to = ends.0; end = ends.1 })
 
 -- the plain token behind whose first quote this place is
 abbrev pub plain_behind : Place → Option Found
-plain_behind from = ended None from (plain_in false from.at from.left)
+plain_behind from = found_between None from (plain_in false from.at from.left)
 
 -- the raw token with so many `#`, behind whose first quote this place is
 abbrev pub raw_behind : ℕ → Place → Option Found
-raw_behind marks from = ended (Some marks) from (raw_in marks from.at from.left)
+raw_behind marks from = found_between (Some marks) from (raw_in marks from.at from.left)
 
 -- the raw token whose `#` stand between these places
 abbrev pub raw_marked : Place → Place → Option Found
@@ -111,8 +111,8 @@ ascii_in at (high ∷ []) = None
 ascii_in at (high ∷ low ∷ cs) = option_map (as_unit (place ((at + len_utf8 high) + len_utf8 low) cs)) (ascii_of high low)
 
 -- the number of the digits, of which there are six at most
-abbrev pub number_of : List ℕ → Option ℕ
-number_of digits = if nat_le (length digits) 6 then Some (digits_value 16 digits) else None
+abbrev pub hex_number : List ℕ → Option ℕ
+hex_number digits = if nat_le (length digits) 6 then Some (digits_value 16 digits) else None
 
 -- the character of that number
 abbrev pub scalar_of : ℕ → Option ℕ
@@ -120,7 +120,7 @@ scalar_of n = if scalar n then Some n else None
 
 -- the character of hexadecimal digits and `_`
 abbrev pub unicode_of : List ℕ → Option ℕ
-unicode_of text = if starts is_hex text then option_and_then scalar_of (number_of (digits_of text)) else None
+unicode_of text = if starts is_hex text then option_and_then scalar_of (hex_number (digits_of text)) else None
 
 -- what hexadecimal digits and `_` stand for, where `}` stands behind them
 abbrev pub unicode_behind : Place → Option (Option ℕ × Place)

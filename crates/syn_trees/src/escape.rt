@@ -4,11 +4,11 @@ ghost use Rattle.text_cut.specs.Place.{past, IsBehind};
 ghost use Rattle.text_cut.specs.Rules.{past_word};
 ghost use Rattle.text_cut.specs.Seen.{seen};
 ghost use Rattle.syn_trees.specs.Escape.{is_space, is_hex_or_underscore, letter, digits_of, HasUnits, meant_of};
-ghost use Rattle.syn_trees.specs.ReadString.{ascii_of, ascii_in, number_of, unicode_of, unicode_behind, unicode_at, escape_by, escape_at, unit_at};
+ghost use Rattle.syn_trees.specs.ReadString.{ascii_of, ascii_in, hex_number, unicode_of, unicode_behind, unicode_at, escape_by, escape_at, unit_at};
 
 use crate::EscapeError;
 use std::alloc::Global;
-use text_cut::{Cursor, begin, first_char, is_at_end, next, run, text_between, word};
+use text_cut::{Cursor, begin, eat, eat_while, first_char, is_at_end, next, text_between};
 
 // The character that a letter stands for behind a `\`.
 fn letter(c: char) -> Option<char>
@@ -32,7 +32,7 @@ fn open_brace(here: Cursor<'_>) -> Option<Cursor<'_>>
     ensures value { option_map seen result ≡ past_word (123 ∷ []) (seen here.entry) }
     ensures shorter { IfSome result (λ e. length e.rest.now + 1 ≤ length here.entry.rest.now) }
 {
-    word(here, "{")
+    eat(here, "{")
 }
 
 // The place behind a closing brace.
@@ -41,7 +41,7 @@ fn close_brace(here: Cursor<'_>) -> Option<Cursor<'_>>
     ensures value { option_map seen result ≡ past_word (125 ∷ []) (seen here.entry) }
     ensures shorter { IfSome result (λ e. length e.rest.now + 1 ≤ length here.entry.rest.now) }
 {
-    word(here, "}")
+    eat(here, "}")
 }
 
 // The place behind the blanks and line feeds that stand here.
@@ -49,7 +49,7 @@ fn spaces_end(here: Cursor<'_>) -> Cursor<'_>
     ensures value { seen result ≡ past is_space (seen here.entry) }
     ensures shorter { length result.rest.now ≤ length here.entry.rest.now }
 {
-    run(here, |c| matches!(c, ' ' | '\t' | '\r' | '\n'))
+    eat_while(here, |c| matches!(c, ' ' | '\t' | '\r' | '\n'))
 }
 
 // The place behind the hexadecimal digits and `_` that stand here.
@@ -58,7 +58,7 @@ fn digits_end(here: Cursor<'_>) -> Cursor<'_>
     ensures behind { IsBehind (seen here.entry) (seen result) }
     ensures shorter { length result.rest.now ≤ length here.entry.rest.now }
 {
-    run(here, |c| c.is_digit(16) || c == '_')
+    eat_while(here, |c| c.is_digit(16) || c == '_')
 }
 
 // The character of two hexadecimal digits, at most 7F.
@@ -84,8 +84,8 @@ fn ascii(here: Cursor<'_>) -> Option<(Option<char>, Cursor<'_>)>
 }
 
 // The number of hexadecimal digits among which `_` may stand; there are six digits at most.
-fn number_of(text: &str) -> Option<u32>
-    ensures { result ≡ number_of (digits_of (chars text.now)) }
+fn hex_number(text: &str) -> Option<u32>
+    ensures { result ≡ hex_number (digits_of (chars text.now)) }
 {
     let mut number = 0;
     let mut count: u32 = 0;
@@ -109,7 +109,7 @@ fn unicode_of(text: &str) -> Option<char>
     if !first.is_digit(16) {
         return None;
     }
-    char::from_u32(number_of(text)?)
+    char::from_u32(hex_number(text)?)
 }
 
 // What hexadecimal digits and `_` stand for, where a closing brace stands behind them.

@@ -20,7 +20,7 @@ pub use asm_call::{
 pub use cfg_predicate::{CfgAtomKey, CfgPredicate};
 pub use format_call::{FormatArgSyntax, FormatCall, LeafSyntax, MacroCallSrc, Template};
 pub use inside::quoted_text;
-pub use laws::{one_value, tokens_are_read};
+pub use laws::{one_value, tokens_are_read, values_as_written, values_fit};
 pub use quoted::string_token;
 pub use string_lit::{EscapeError, StringLit};
 pub use token_tree::{Spacing, TokenTree, TopSubtree, TtLiteral};

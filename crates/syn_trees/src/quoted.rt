@@ -5,7 +5,7 @@ ghost use Rattle.text_cut.specs.Seen.{seen};
 ghost use Rattle.syn_trees.specs.StringToken.{raw_end};
 ghost use Rattle.syn_trees.specs.ReadString.{found_of, plain_in, raw_in, plain_behind, raw_behind, raw_marked, raw_at, token_at, token_end};
 
-use text_cut::{Cursor, next, run, word};
+use text_cut::{Cursor, eat, eat_while, next};
 
 /// A string token that was found.
 #[derive(Clone, Copy, Drop)]
@@ -26,7 +26,7 @@ fn quote(here: Cursor<'_>) -> Option<Cursor<'_>>
     ensures value { option_map seen result ≡ past_word (34 ∷ []) (seen here.entry) }
     ensures shorter { IfSome result (λ e. length e.rest.now + 1 ≤ length here.entry.rest.now) }
 {
-    word(here, "\"")
+    eat(here, "\"")
 }
 
 // The place behind an `r`.
@@ -35,7 +35,7 @@ fn raw_letter(here: Cursor<'_>) -> Option<Cursor<'_>>
     ensures value { option_map seen result ≡ past_word (114 ∷ []) (seen here.entry) }
     ensures shorter { IfSome result (λ e. length e.rest.now + 1 ≤ length here.entry.rest.now) }
 {
-    word(here, "r")
+    eat(here, "r")
 }
 
 // The place behind a `#`.
@@ -44,7 +44,7 @@ fn mark(here: Cursor<'_>) -> Option<Cursor<'_>>
     ensures value { option_map seen result ≡ past_word (35 ∷ []) (seen here.entry) }
     ensures shorter { IfSome result (λ e. length e.rest.now + 1 ≤ length here.entry.rest.now) }
 {
-    word(here, "#")
+    eat(here, "#")
 }
 
 // The place behind all the `#` that stand here.
@@ -52,7 +52,7 @@ fn marks_end(here: Cursor<'_>) -> Cursor<'_>
     ensures value { seen result ≡ past (λ c. nat_eq c 35) (seen here.entry) }
     ensures shorter { length result.rest.now ≤ length here.entry.rest.now }
 {
-    run(here, |c| c == '#')
+    eat_while(here, |c| c == '#')
 }
 
 // Where a plain token ends, behind its first quote: in front of its last one, and behind it.
@@ -152,6 +152,12 @@ pub(crate) fn token(here: Cursor<'_>) -> Option<Quoted<'_>>
 }
 
 /// Returns the place behind the string token that stands here; `None` where none stands here.
+///
+/// ```
+/// let end = string_token(begin("\"a\"b")).unwrap();
+/// assert_eq!((end.at, end.rest), (3, "b"));
+/// assert!(string_token(begin("b\"a\"")).is_none());
+/// ```
 pub fn string_token(here: Cursor<'_>) -> Option<Cursor<'_>>
     ensures value { option_map seen result ≡ token_end (seen here.entry) }
     ensures shorter { IfSome result (λ e. length e.rest.now + 1 ≤ length here.entry.rest.now) }

@@ -1,7 +1,9 @@
-ghost use Rattle.std.specs.Prelude.{◌≡◌, ◌↔◌, ◌≤◌, length, not, nat_eq, IfOk, IfSome, IfNone, IsTrue};
+ghost use Rattle.std.specs.Prelude.{◌≡◌, ◌↔◌, ◌+◌, ◌<◌, ◌≤◌, length, not, nat_eq, IfOk, IfSome, IsSome, IsTrue};
+ghost use Rattle.std.specs.Str.{IsUtf8};
+ghost use Rattle.text_cut.specs.Part.{IsPart};
 ghost use Rattle.text_cut.specs.Place.{past};
 ghost use Rattle.text_cut.specs.Seen.{seen};
-ghost use Rattle.syn_trees.specs.Literal.{IsLiteral, HasValue, HasNoValue, IsBetweenQuotes, IsUnescaped};
+ghost use Rattle.syn_trees.specs.Literal.{IsLiteral, HasValue, HasNoValue, FitsBetweenQuotes, IsBetweenQuotes, IsUnescaped};
 ghost use Rattle.syn_trees.specs.ReadString.{found_of, PartsOf};
 
 use crate::escape::unescape;
@@ -10,10 +12,18 @@ use std::alloc::{AllocError, Global};
 use std::fmt;
 use std::marker::Model;
 use sym_core::{Symbol, TextRange};
-use text_cut::{Cursor, begin, is_at_end, run, starts_with, text_between};
+use text_cut::{Cursor, begin, eat_while, is_at_end, starts_with, text_between};
 use thiserror::Error;
 
 /// A string literal, by its whole token (the Rust Reference, "String literals" and "Raw string literals").
+///
+/// ```
+/// let literal = StringLit::new(Symbol::new(alloc, "\"a\\x41\"")?).unwrap();
+/// assert_eq!(literal.text(), "\"a\\x41\"");
+/// assert_eq!(literal.value(alloc)?.as_str(), "aA");
+/// assert_eq!(literal.quote_offsets(), TextRange { start: 1, end: 6 });
+/// assert!(!literal.is_plain());
+/// ```
 #[derive(Drop)]
 pub struct StringLit {
     token: Symbol,
@@ -74,13 +84,13 @@ impl Clone for StringLit {
 }
 
 // The greatest length of a token.
-const MOST: usize = 4_294_967_295;
+const MAX_TOKEN_LEN: usize = 4_294_967_295;
 
 // Whether a text is a string token that is not too long.
 fn is_literal(text: &str) -> bool
     ensures { IsTrue result ↔ IsLiteral text.now }
 {
-    if text.len() > MOST {
+    if text.len() > MAX_TOKEN_LEN {
         return false;
     }
     match string_token(begin(text)) {
@@ -93,7 +103,7 @@ fn is_literal(text: &str) -> bool
 fn before_backslash(here: Cursor<'_>) -> Cursor<'_>
     ensures { seen result ≡ past (λ c. not (nat_eq c 92)) (seen here.entry) }
 {
-    run(here, |c| c != '\\')
+    eat_while(here, |c| c != '\\')
 }
 
 // The range between two places.
@@ -108,11 +118,12 @@ fn range_between(from: Cursor<'_>, to: Cursor<'_>) -> TextRange
 }
 
 impl StringLit {
-    /// Returns the literal of this token, and `None` exactly where it is no string token, or longer than 4,294,967,295
-    /// bytes.
+    /// Returns the literal of this token: `Some` exactly where it is a string token of at most 4,294,967,295 bytes.
+    ///
+    /// Of the tokens `"a"` and `r"a"` it is `Some`; of `a`, `"a` and `"a" "b"` it is `None`.
     pub fn new(token: Symbol) -> Option<StringLit>
         ensures value { IfSome result (λ literal. literal ≡ token) }
-        ensures none { IfNone result (IsLiteral token → ⊥) }
+        ensures some { IsSome result ↔ IsLiteral token }
     {
         if !is_literal(token.as_str()) {
             return None;
@@ -120,16 +131,18 @@ impl StringLit {
         Some(StringLit { token })
     }
 
-    /// Returns the whole token, with its quotes.
+    /// Returns the whole token, with its quotes, as it was given to [`new`](StringLit::new).
     pub fn text(&self) -> &str
-        ensures { result.now ≡ self.now }
+        ensures value { result.now ≡ self.now }
+        ensures literal { IsLiteral self.now }
     {
         self.token.as_str()
     }
 
     // The token, as it is found in its text.
     fn parts(&self) -> Quoted<'_>
-        ensures { PartsOf self.now (found_of result) }
+        ensures parts { PartsOf self.now (found_of result) }
+        ensures utf8 { IsUtf8 self.now }
     {
         match token(begin(self.token.as_str())) {
             Some(parts) => parts,
@@ -137,15 +150,22 @@ impl StringLit {
         }
     }
 
-    /// Returns the range of what stands between the quotes, in bytes of the token.
+    /// Returns the range of what stands between the quotes, in bytes of the token: of `r#"ab"#` it is 3..5.
+    ///
+    /// `start` with the length of the literal's value is at most `end`: a range of the value has 32 bits with `start` added
+    /// to both ends too. Where the literal is plain, that is where the range stands in the token.
     pub fn quote_offsets(&self) -> TextRange
-        ensures { IsBetweenQuotes self.now result.start result.end }
+        ensures between { IsBetweenQuotes self.now result.start result.end }
+        ensures part { IsPart self.now result.start result.end }
+        ensures quoted { result.end < length self.now }
     {
         let parts = self.parts();
         range_between(parts.from, parts.to)
     }
 
     /// Returns whether the literal's value is what stands between its quotes: whether it is raw, or has no `\`.
+    ///
+    /// `"ab"` and `r"a\n"` are plain, and `"a\n"` is not.
     pub fn is_plain(&self) -> bool
         ensures { IsTrue result ↔ IsUnescaped self.now }
     {
@@ -155,12 +175,16 @@ impl StringLit {
 
     /// Returns what the literal stands for: what stands between its quotes, where each escape is replaced.
     ///
+    /// Of `"a\x41"` it is `aA`, of `r"a\x41"` it is `a\x41`, and of `"\q"` it is [`EscapeError::Escape`].
+    ///
     /// # Errors
     ///
     /// [`EscapeError::Escape`] exactly where the literal is not raw and holds a `\` that begins no escape;
     /// [`EscapeError::Memory`] where no memory is left.
     pub fn value(&self, alloc: Global) -> Result<Symbol, EscapeError>
         ensures value { IfOk result (λ symbol. HasValue self.now symbol) }
+        ensures fits { IfOk result (λ symbol. FitsBetweenQuotes self.now symbol) }
+        ensures short { IfOk result (λ symbol. length symbol + 2 ≤ length self.now) }
         ensures escape { result ≡ Err EscapeError.Escape → HasNoValue self.now }
     {
         let parts = self.parts();
@@ -183,6 +207,18 @@ mod tests {
     // The literal of a token, if it is one.
     fn literal(alloc: Global, token: &str) -> Result<Option<StringLit>, AllocError> {
         Ok(StringLit::new(Symbol::new(alloc, token)?))
+    }
+
+    #[test]
+    fn reads_a_literal(rt: HostRuntime) -> Result<(), Fail> {
+        let alloc = rt.alloc();
+        let token = "\"a\\x41\"";
+        let literal = literal(alloc, token)?.expect(&rt, "a string token");
+        assert_eq!(rt; literal.text(), token, "the whole token");
+        assert_eq!(rt; literal.value(alloc)?.as_str(), "aA", "what it stands for");
+        assert_eq!(rt; literal.quote_offsets(), TextRange { start: 1, end: 6 });
+        assert!(rt; !literal.is_plain(), "it has an escape");
+        Ok(())
     }
 
     // The range between the quotes, whether the literal is plain, and its value or `Escape`.
@@ -256,14 +292,21 @@ mod tests {
         Ok(())
     }
 
+    // What is told of a raw token with so many `#`.
+    fn told_of_marks(alloc: Global, count: usize) -> Result<String, AllocError>
+        requires { count ≤ 256 }
+    {
+        let marks = "#".repeat(alloc, count)?;
+        let token = format!(in alloc; "r{marks}\"a\"{marks}")?;
+        told(alloc, token.as_str())
+    }
+
     #[test]
     fn counts_marks(rt: HostRuntime) -> Result<(), Fail> {
-        let alloc = rt.alloc();
-        let marks = "#".repeat(alloc, 255)?;
-        let most = format!(in alloc; "r{marks}\"a\"{marks}")?;
-        assert_eq!(rt; told(alloc, most.as_str())?.as_str(), "257..258 plain a");
-        let more = format!(in alloc; "r{marks}#\"a\"{marks}#")?;
-        assert_eq!(rt; told(alloc, more.as_str())?.as_str(), "no token");
+        let most = told_of_marks(rt.alloc(), 255)?;
+        assert_eq!(rt; most.as_str(), "257..258 plain a");
+        let more = told_of_marks(rt.alloc(), 256)?;
+        assert_eq!(rt; more.as_str(), "no token");
         Ok(())
     }
 

@@ -6,6 +6,13 @@ use std::alloc::AllocError;
 use std::marker::Model;
 
 /// The trees of a list that are still to come.
+///
+/// ```
+/// let mut iter = top.iter();                      // the trees of `a = "1" (b)`
+/// assert_eq!(iter.peek().map(kind), Some('i'));   // the word, which stays
+/// assert_eq!(iter.next().map(kind), Some('i'));   // the word
+/// assert_eq!(iter.next().map(kind), Some('='));   // the mark behind it
+/// ```
 #[derive(Debug, Drop)]
 pub struct TtIter<'a> {
     trees: &'a [TokenTree],
@@ -76,7 +83,7 @@ mod tests {
     use std::test::Fail;
     use sym_core::Symbol;
 
-    // A letter for each kind of tree, and a digit for how many trees stand inside.
+    // A letter for each kind of tree; of a mark, the mark.
     fn kind(tree: &TokenTree) -> char {
         match tree {
             TokenTree::Ident(_) => 'i',
@@ -86,20 +93,32 @@ mod tests {
         }
     }
 
+    fn word(alloc: Global, text: &str) -> Result<TokenTree, AllocError> {
+        Ok(TokenTree::Ident(Symbol::new(alloc, text)?))
+    }
+
+    fn string(alloc: Global, inside: &str) -> Result<TokenTree, AllocError> {
+        let text = Symbol::new(alloc, inside)?;
+        Ok(TokenTree::Literal(TtLiteral { text }))
+    }
+
+    // `(b)`
+    fn group(alloc: Global) -> Result<TokenTree, AllocError> {
+        let mut inside = Items::new(alloc);
+        inside.push(word(alloc, "b")?)?;
+        Ok(TokenTree::Subtree(inside))
+    }
+
     // `a = "1" (b)`
     fn trees(alloc: Global) -> Result<TopSubtree, AllocError> {
-        let mut inside = Items::new(alloc);
-        inside.push(TokenTree::Ident(Symbol::new(alloc, "b")?))?;
         let mut trees = Items::new(alloc);
-        trees.push(TokenTree::Ident(Symbol::new(alloc, "a")?))?;
+        trees.push(word(alloc, "a")?)?;
         trees.push(TokenTree::Punct {
             ch: '=',
             spacing: Spacing::Alone,
         })?;
-        trees.push(TokenTree::Literal(TtLiteral {
-            text: Symbol::new(alloc, "1")?,
-        }))?;
-        trees.push(TokenTree::Subtree(inside))?;
+        trees.push(string(alloc, "1")?)?;
+        trees.push(group(alloc)?)?;
         Ok(TopSubtree { trees })
     }
 

@@ -5,7 +5,7 @@ use Rattle.std.proofs.lemmas.Option.{same_Some}
 use Rattle.text_cut.specs.Runs.{front}
 use Rattle.text_cut.specs.Place.{Place, place, first_in, first, past, IsBehind}
 use Rattle.text_cut.specs.Rules.{Reads, past_word}
-use Rattle.text_cut.proofs.Options.{none_some}
+use Rattle.text_cut.proofs.OptionLaws.{none_some}
 use Rattle.text_cut.proofs.Rules.{took_none, took_one, took_both, past_is, word_is}
 
 -- a place is behind itself

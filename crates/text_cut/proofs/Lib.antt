@@ -1,5 +1,5 @@
 pub mod Lists
-pub mod Options
+pub mod OptionLaws
 pub mod Sizes
 pub mod Chars
 pub mod Runs
@@ -10,3 +10,4 @@ pub mod Longer
 pub mod SoFar
 pub mod Whole
 pub mod Many
+pub mod Parts

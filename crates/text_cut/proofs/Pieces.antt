@@ -6,7 +6,7 @@ use Rattle.text_cut.specs.Runs.{size}
 use Rattle.text_cut.specs.Place.{Place, place}
 use Rattle.text_cut.specs.Reading.{Spelled, texts, items, AreSpelled, Reach, IsReading, IsRead, StopsAt, FaultAt, ReadsPieces}
 use Rattle.text_cut.proofs.Lists.{texts_more}
-use Rattle.text_cut.proofs.Options.{none_some}
+use Rattle.text_cut.proofs.OptionLaws.{none_some}
 use Rattle.text_cut.proofs.Sizes.{size_append, size_some}
 
 -- no piece yet

@@ -10,7 +10,7 @@ use Rattle.text_cut.specs.Place.{Place, place, past, Took}
 use Rattle.text_cut.specs.Rules.{Spells, Reads, Both, paired, both_at, IsOne, one_in, one_at, IsWord, word_in, past_word, word_at, IsRun, run_at}
 use Rattle.text_cut.proofs.Sizes.{size_append}
 use Rattle.text_cut.proofs.Runs.{front_behind, front_is, front_of, behind_of}
-use Rattle.text_cut.proofs.Options.{mapped, chosen, none_some}
+use Rattle.text_cut.proofs.OptionLaws.{mapped, chosen, none_some}
 
 -- nothing stands between a place and itself
 pub took_none : (p : Place) → Took p p []

@@ -8,7 +8,7 @@ use Rattle.text_cut.specs.Place.{Place, place}
 use Rattle.text_cut.specs.Reading.{Spelled, texts, items, AreSpelled, IsRead, ReadsPieces, StepsBy, SoFar}
 use Rattle.text_cut.specs.Whole.{unless_ended, then_more, read_within, read_whole}
 use Rattle.text_cut.proofs.Lists.{texts_more}
-use Rattle.text_cut.proofs.Options.{mapped, none_some}
+use Rattle.text_cut.proofs.OptionLaws.{mapped, none_some}
 use Rattle.text_cut.proofs.Sizes.{size_append}
 use Rattle.text_cut.proofs.SoFar.{so_far_begins, so_far_more, so_far_ends}
 

@@ -5,3 +5,4 @@ pub mod Reading
 pub mod Seen
 pub mod Whole
 pub mod Many
+pub mod Part

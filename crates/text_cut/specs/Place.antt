@@ -21,7 +21,7 @@ first_in at (c ∷ cs) = Some (c, place (at + len_utf8 c) cs)
 abbrev pub first : Place → Option (ℕ × Place)
 first here = first_in here.at here.left
 
--- the place behind the longest run of passing characters
+-- the place behind the longest run of passing characters, which `eat_while` finds
 abbrev pub past : (ℕ → Bool) → Place → Place
 past p here = place (here.at + size (front p here.left)) (behind p here.left)
 

@@ -69,7 +69,7 @@ word_in [] at text = Some (place at text)
 word_in (d ∷ word) at [] = None
 word_in (d ∷ word) at (c ∷ cs) = if nat_eq c d then word_in word (at + len_utf8 c) cs else None
 
--- the place behind the word, if it stands at this place
+-- the place behind the word, if it stands at this place, which `eat` finds
 abbrev pub past_word : List ℕ → Place → Option Place
 past_word word p = word_in word p.at p.left
 

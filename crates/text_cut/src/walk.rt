@@ -7,7 +7,7 @@ ghost use Rattle.text_cut.specs.Seen.{seen};
 
 use crate::cursor::Cursor;
 
-/// The place in front of the whole text, which has at most 4,294,967,295 bytes.
+/// The place in front of the whole text, which has at most 4,294,967,295 bytes: `begin("ab").rest` is `"ab"`.
 pub fn begin(text: &str) -> Cursor<'_>
     requires { length text.now ≤ 4_294_967_295 }
     ensures { seen result ≡ place 0 (chars text.now) }
@@ -15,7 +15,7 @@ pub fn begin(text: &str) -> Cursor<'_>
     Cursor { at: 0, rest: text }
 }
 
-/// The first character of a text, and what follows it; none where the text is empty.
+/// The first character of a text, and what follows it; none where the text is empty: of `"éa"`, `'é'` and `"a"`.
 pub fn first_char(text: &str) -> Option<(char, &str)>
     ensures value { MatchOption result (chars text.now ≡ []) (λ r. chars text.now ≡ r.0 ∷ chars r.1.now) }
     ensures size { IfSome result (λ r. len_utf8 r.0 + length r.1.now ≡ length text.now) }
@@ -26,6 +26,8 @@ pub fn first_char(text: &str) -> Option<(char, &str)>
 }
 
 /// The first character behind a place, and the place behind that character; none at the text's end.
+///
+/// At the start of `"éa"` it is `'é'`, and the place behind it is at byte 2.
 pub fn next(here: Cursor<'_>) -> Option<(char, Cursor<'_>)>
     ensures value { option_map (λ r. (r.0, seen r.1)) result ≡ first (seen here.entry) }
     ensures behind { IfSome result (λ r. IsBehind (seen here.entry) (seen r.1)) }
@@ -39,7 +41,7 @@ pub fn next(here: Cursor<'_>) -> Option<(char, Cursor<'_>)>
     Some((c, behind))
 }
 
-/// The first character behind a place; none at the text's end.
+/// The first character behind a place; none at the text's end. The place itself stays.
 pub fn peek(here: Cursor<'_>) -> Option<char>
     ensures { result ≡ option_map (λ r. r.0) (first (seen here.entry)) }
 {
@@ -47,14 +49,14 @@ pub fn peek(here: Cursor<'_>) -> Option<char>
     Some(c)
 }
 
-/// Whether nothing stands behind a place.
+/// Whether nothing stands behind a place: `is_at_end(begin(""))` holds.
 pub fn is_at_end(here: Cursor<'_>) -> bool
     ensures { MatchBool result ((seen here.entry).left ≡ []) (0 < length (seen here.entry).left) }
 {
     next(here).is_none()
 }
 
-/// Whether the text behind a place begins with a character that passes.
+/// Whether the text behind a place begins with a character that passes: `begins_with(begin("7"), |c| c == '7')` holds.
 pub fn begins_with<F: Fn(char) -> bool>(here: Cursor<'_>, passes: F) -> bool
     requires { F.IsAlwaysCallable passes }
     ensures { (p : ℕ → Bool) → AnswersAs (F.post passes) p → result ≡ starts p (seen here.entry).left }
@@ -65,7 +67,7 @@ pub fn begins_with<F: Fn(char) -> bool>(here: Cursor<'_>, passes: F) -> bool
     }
 }
 
-/// Whether the text behind a place begins with this character.
+/// Whether the text behind a place begins with this character: `starts_with(begin("ab"), 'a')` holds.
 pub fn starts_with(here: Cursor<'_>, c: char) -> bool
     ensures { result ≡ starts (λ d. d == c) (seen here.entry).left }
 {
@@ -76,14 +78,16 @@ pub fn starts_with(here: Cursor<'_>, c: char) -> bool
 }
 
 /// The place behind a word that stands here; none where it does not stand here whole.
+///
+/// `eat(begin("opt unix"), "opt")` is at byte 3, and `eat(begin("op"), "opt")` is none.
 #[tactic(auto, using(crate::proofs::Behind::behinds))]
-pub fn word<'a>(here: Cursor<'a>, text: &str) -> Option<Cursor<'a>>
-    ensures value { option_map seen result ≡ past_word (chars text.now) (seen here.entry) }
+pub fn eat<'a>(here: Cursor<'a>, word: &str) -> Option<Cursor<'a>>
+    ensures value { option_map seen result ≡ past_word (chars word.now) (seen here.entry) }
     ensures behind { IfSome result (λ e. IsBehind (seen here.entry) (seen e)) }
-    ensures shorter { IfSome result (λ e. length e.rest.now + length (chars text.now) ≤ length here.entry.rest.now) }
+    ensures shorter { IfSome result (λ e. length e.rest.now + length (chars word.now) ≤ length here.entry.rest.now) }
 {
     let mut end = here;
-    let mut left = text;
+    let mut left = word;
     while let Some((c, more)) = first_char(left) {
         let (d, behind) = next(end)?;
         if d != c {
@@ -96,8 +100,10 @@ pub fn word<'a>(here: Cursor<'a>, text: &str) -> Option<Cursor<'a>>
 }
 
 /// The place behind the longest run of characters that pass; where the first does not pass, the place itself.
+///
+/// `eat_while(begin("12a3"), |c| c.is_ascii_digit())` is at byte 2.
 #[tactic(auto, using(crate::proofs::Behind::behinds))]
-pub fn run<F: Fn(char) -> bool>(here: Cursor<'_>, passes: F) -> Cursor<'_>
+pub fn eat_while<F: Fn(char) -> bool>(here: Cursor<'_>, passes: F) -> Cursor<'_>
     requires { F.IsAlwaysCallable passes }
     ensures value { (p : ℕ → Bool) → AnswersAs (F.post passes) p → seen result ≡ past p (seen here.entry) }
     ensures behind { IsBehind (seen here.entry) (seen result) }
@@ -113,13 +119,13 @@ pub fn run<F: Fn(char) -> bool>(here: Cursor<'_>, passes: F) -> Cursor<'_>
     end
 }
 
-/// The place behind the spaces, TABs and CRs that stand here.
+/// The place behind the spaces, TABs and CRs that stand here: `blanks(begin(" \t\r\n"))` is at byte 3.
 pub fn blanks(here: Cursor<'_>) -> Cursor<'_>
     ensures value { seen result ≡ past is_blank (seen here.entry) }
     ensures behind { IsBehind (seen here.entry) (seen result) }
     ensures shorter { length result.rest.now ≤ length here.entry.rest.now }
 {
-    run(here, |c| c == ' ' || c == '\t' || c == '\r')
+    eat_while(here, |c| c == ' ' || c == '\t' || c == '\r')
 }
 
 // What stands in front of a text that is the end of another.
@@ -131,6 +137,8 @@ fn text_before<'a>(text: &'a str, later: &str) -> &'a str
 }
 
 /// The text between two places, of which `later` is the same as `here` or behind it in the same text.
+///
+/// From the start of `"12a"` to the place behind its digits it is `"12"`.
 pub fn text_between<'a>(here: Cursor<'a>, later: Cursor<'_>) -> &'a str
     requires { IsBehind (seen here) (seen later) }
     ensures { Took (seen here.entry) (seen later.entry) (chars result.now) }
@@ -143,27 +151,26 @@ mod tests {
     use super::*;
 
     #[test]
-    fn walks_a_text(rt: HostRuntime) {
-        let start = begin("héllo  x");
-        assert!(rt; starts_with(start, 'h'), "the first character");
+    fn cuts_a_text(rt: HostRuntime) {
+        let start = begin("é12  x");
+        let digits = eat(start, "é").expect(&rt, "a word that stands there");
+        let end = eat_while(digits, |c| c.is_ascii_digit());
+        assert_eq!(rt; text_between(digits, end), "12", "a run of digits");
+        let (last, behind) = next(blanks(end)).expect(&rt, "a character behind blanks");
+        assert_eq!(rt; (last, behind.at), ('x', 7), "é takes two bytes");
+        assert!(rt; is_at_end(behind), "nothing is left");
+    }
+
+    #[test]
+    fn looks_ahead(rt: HostRuntime) {
+        let start = begin("opt 7");
+        assert!(rt; starts_with(start, 'o') && begins_with(start, |c| c == 'o'));
         assert!(rt;
-            word(start, "hel").is_none(),
+            eat(start, "op7").is_none(),
             "a word that does not stand there"
         );
-
-        let middle = word(start, "hé").expect(&rt, "a word that stands there");
-        assert_eq!(rt; middle.at, 3, "é takes two bytes");
-        let end = run(middle, |c| c.is_ascii_lowercase());
-        assert_eq!(rt; end.at, 6, "a run of letters");
-        assert_eq!(rt; text_between(middle, end), "llo", "the text of the run");
-
-        let after = blanks(end);
-        assert_eq!(rt; after.at, 8, "two blanks");
-        assert_eq!(rt; text_between(end, after), "  ", "the blanks");
-        assert_eq!(rt; peek(after), Some('x'), "the last character");
-        let (last, behind) = next(after).expect(&rt, "a character is left");
-        assert_eq!(rt; last, 'x', "the last character, taken");
-        assert_eq!(rt; behind.at, 9, "the text's length in bytes");
-        assert!(rt; is_at_end(behind), "nothing is left");
+        assert_eq!(rt; peek(start), Some('o'), "the first character");
+        assert_eq!(rt; blanks(begin(" \t\r\n")).at, 3, "a line feed is no blank");
+        assert_eq!(rt; first_char("éa"), Some(('é', "a")), "and what follows it");
     }
 }

@@ -2,7 +2,7 @@
 ghost use Rattle.std.specs.Prelude.{◌<◌, length, IsTrue, OnOk, is_some};
 ghost use Rattle.hir_store.specs.Tree.{is_whole, all_whole, steps_whole};
 ghost use Rattle.hir_store.specs.Unfolding.{place_of, tree_at, tree_over, trees_of, steps_of, tail_step, name_in};
-ghost use Rattle.hir_store.specs.Store.{IsPlaced};
+ghost use Rattle.hir_store.specs.Store.{NoDanglingIds};
 
 use super::*;
 use hir_store::{Expr, ExprId, LangFn, LangItem, Literal, Pat, PatId, Statement};
@@ -14,7 +14,7 @@ use sym_core::{Name, Symbol};
 
 fn stands(store: &ExpressionStore, id: ExprId) -> bool
     ensures within { IsTrue result → place_of id < length store.now.exprs }
-    ensures whole { IsPlaced store.now → IsTrue result → IsTrue (is_whole (tree_at store.now id)) }
+    ensures whole { NoDanglingIds store.now → IsTrue result → IsTrue (is_whole (tree_at store.now id)) }
 {
     store.exprs.get(id.idx()).is_some()
 }
@@ -29,7 +29,7 @@ fn binds(store: &ExpressionStore, pat: PatId) -> bool
 }
 
 fn all_stand(store: &ExpressionStore, ids: &[ExprId]) -> bool
-    requires { IsPlaced store.now }
+    requires { NoDanglingIds store.now }
     ensures { IsTrue result → IsTrue (all_whole (trees_of (tree_at store.now) ids.now)) }
 {
     match ids {
@@ -39,7 +39,7 @@ fn all_stand(store: &ExpressionStore, ids: &[ExprId]) -> bool
 }
 
 fn tail_stands(store: &ExpressionStore, tail: Option<ExprId>) -> bool
-    requires { IsPlaced store.now }
+    requires { NoDanglingIds store.now }
     ensures { IsTrue result → IsTrue (steps_whole (tail_step (tree_at store.now) tail)) }
 {
     match tail {
@@ -49,7 +49,7 @@ fn tail_stands(store: &ExpressionStore, tail: Option<ExprId>) -> bool
 }
 
 fn steps_stand(store: &ExpressionStore, statements: &[Statement], tail: Option<ExprId>) -> bool
-    requires { IsPlaced store.now }
+    requires { NoDanglingIds store.now }
     ensures { IsTrue result → IsTrue (steps_whole (steps_of (name_in store.now) (tree_at store.now) statements.now tail)) }
 {
     match statements {
@@ -62,7 +62,7 @@ fn steps_stand(store: &ExpressionStore, statements: &[Statement], tail: Option<E
 }
 
 fn parts_stand(store: &ExpressionStore, expr: &Expr) -> bool
-    requires { IsPlaced store.now }
+    requires { NoDanglingIds store.now }
     ensures { IsTrue result → IsTrue (is_whole (tree_over store.now expr.now)) }
 {
     match expr {
@@ -81,16 +81,16 @@ fn parts_stand(store: &ExpressionStore, expr: &Expr) -> bool
 }
 
 fn place(rt: &impl Abort, store: &mut ExpressionStore, expr: Expr) -> Result<ExprId, ArenaError>
-    requires { IsPlaced store.old }
-    ensures { IsPlaced store.new }
+    requires { NoDanglingIds store.old }
+    ensures { NoDanglingIds store.new }
 {
     assert!(rt; parts_stand(store, &expr));
     store.alloc_expr_desugared(expr)
 }
 
 fn place_pat(store: &mut ExpressionStore, name: Name) -> Result<PatId, ArenaError>
-    requires { IsPlaced store.old }
-    ensures { IsPlaced store.new }
+    requires { NoDanglingIds store.old }
+    ensures { NoDanglingIds store.new }
 {
     let binding = store.alloc_binding(name)?;
     store.alloc_pat(Pat::Bind(binding))
@@ -102,10 +102,20 @@ fn lang(
     item: LangItem,
     function: LangFn,
 ) -> Result<ExprId, ArenaError>
-    requires { IsPlaced store.old }
-    ensures { IsPlaced store.new }
+    requires { NoDanglingIds store.old }
+    ensures { NoDanglingIds store.new }
 {
     place(rt, store, Expr::LangPath(item, function))
+}
+
+#[test]
+fn prints_a_line_for_each_outcome(rt: HostRuntime) -> Result<(), Fail> {
+    let mut store = ExpressionStore::new(rt.alloc());
+    let leaf = store.alloc_expr_desugared(Expr::Leaf(7))?;
+    let outcomes = [Outcome::Code(leaf), Outcome::Off];
+    let printed = print_outcomes(rt.alloc(), &store, &outcomes)?;
+    assert_eq!(rt; printed.as_slice(), b"0 code @7\n1 off\n".as_slice());
+    Ok(())
 }
 
 #[test]
@@ -126,38 +136,53 @@ fn prints_a_text(rt: HostRuntime) -> Result<(), Fail> {
 }
 
 #[test]
-fn prints_tuples_and_names(rt: HostRuntime) -> Result<(), Fail> {
+fn prints_tuples(rt: HostRuntime) -> Result<(), Fail> {
     let alloc = rt.alloc();
     let mut store = ExpressionStore::new(alloc);
     let unit = place(&rt, &mut store, Expr::Tuple(Items::new(alloc)))?;
     let leaf = place(&rt, &mut store, Expr::Leaf(4_294_967_295))?;
     let single = Items::from_slice(alloc, &[leaf])?;
     let single = place(&rt, &mut store, Expr::Tuple(single))?;
+    assert!(rt; stands(&store, unit));
+    assert!(rt; stands(&store, single));
+    let outcomes = [Outcome::Code(unit), Outcome::Code(single)];
+    let printed = print_outcomes(alloc, &store, &outcomes)?;
+    let lines = b"0 code ()\n1 code (@4294967295,)\n";
+    assert_eq!(rt; printed.as_slice(), lines.as_slice());
+    Ok(())
+}
+
+#[test]
+fn prints_a_statement(rt: HostRuntime) -> Result<(), Fail> {
+    let alloc = rt.alloc();
+    let mut store = ExpressionStore::new(alloc);
     let missing = place(&rt, &mut store, Expr::Missing)?;
-    let name = Name::new(alloc, "total")?;
-    let path = place(&rt, &mut store, Expr::Path(name))?;
+    let path = place(&rt, &mut store, Expr::Path(Name::new(alloc, "total")?))?;
+    let unit = place(&rt, &mut store, Expr::Tuple(Items::new(alloc)))?;
     let three = Items::from_slice(alloc, &[missing, path, unit])?;
     let three = place(&rt, &mut store, Expr::Tuple(three))?;
-    let statements = Items::from_slice(alloc, &[Statement::Expr(three)])?;
     let block = Expr::Block {
-        statements,
+        statements: Items::from_slice(alloc, &[Statement::Expr(three)])?,
         tail: None,
         is_unsafe: false,
     };
     let block = place(&rt, &mut store, block)?;
-    assert!(rt; stands(&store, unit));
-    assert!(rt; stands(&store, single));
     assert!(rt; stands(&store, block));
-    let outcomes = [
-        Outcome::Code(unit),
-        Outcome::Code(single),
-        Outcome::Off,
-        Outcome::Code(block),
-    ];
-    let printed = print_outcomes(alloc, &store, &outcomes)?;
-    let lines = b"0 code ()\n1 code (@4294967295,)\n2 off\n3 code { (missing, total, ()); }\n";
-    assert_eq!(rt; printed.as_slice(), lines.as_slice());
+    let printed = print_outcomes(alloc, &store, &[Outcome::Code(block)])?;
+    let line = b"0 code { (missing, total, ()); }\n";
+    assert_eq!(rt; printed.as_slice(), line.as_slice());
     Ok(())
+}
+
+// `(&@1,)`
+fn references(rt: &impl Abort, alloc: Global, store: &mut ExpressionStore) -> Result<ExprId, Fail>
+    requires { NoDanglingIds store.old }
+    ensures { OnOk result (NoDanglingIds store.new) }
+{
+    let leaf = place(rt, store, Expr::Leaf(1))?;
+    let argument = place(rt, store, Expr::Ref(leaf))?;
+    let references = Items::from_slice(alloc, &[argument])?;
+    Ok(place(rt, store, Expr::Tuple(references))?)
 }
 
 // `[Argument::new_display(#0.0)]`
@@ -166,8 +191,8 @@ fn argument_list(
     alloc: Global,
     store: &mut ExpressionStore,
 ) -> Result<ExprId, Fail>
-    requires { IsPlaced store.old }
-    ensures { OnOk result (IsPlaced store.new) }
+    requires { NoDanglingIds store.old }
+    ensures { OnOk result (NoDanglingIds store.new) }
 {
     let callee = lang(rt, store, LangItem::FormatArgument, LangFn::NewDisplay)?;
     let expr = place(rt, store, Expr::Path(Name::fresh(0)))?;
@@ -185,8 +210,8 @@ fn made_arguments(
     alloc: Global,
     store: &mut ExpressionStore,
 ) -> Result<ExprId, Fail>
-    requires { IsPlaced store.old }
-    ensures { OnOk result (IsPlaced store.new) }
+    requires { NoDanglingIds store.old }
+    ensures { OnOk result (NoDanglingIds store.new) }
 {
     let callee = lang(rt, store, LangItem::FormatArguments, LangFn::New)?;
     let template = Items::from_slice(alloc, b"\x01x\xc0\x02y{\x00")?;
@@ -203,31 +228,43 @@ fn made_arguments(
     Ok(place(rt, store, block)?)
 }
 
+// `{ let #0 = first; let #0 = second; tail }`
+fn two_lets(
+    rt: &impl Abort,
+    alloc: Global,
+    store: &mut ExpressionStore,
+    first: ExprId,
+    second: ExprId,
+    tail: ExprId,
+) -> Result<ExprId, Fail>
+    requires { NoDanglingIds store.old }
+    ensures { OnOk result (NoDanglingIds store.new) }
+{
+    let pat = place_pat(store, Name::fresh(0))?;
+    let first = Statement::Let {
+        pat,
+        initializer: first,
+    };
+    let second = Statement::Let {
+        pat,
+        initializer: second,
+    };
+    let block = Expr::Block {
+        statements: Items::from_slice(alloc, &[first, second])?,
+        tail: Some(tail),
+        is_unsafe: false,
+    };
+    Ok(place(rt, store, block)?)
+}
+
 #[test]
 fn prints_a_block(rt: HostRuntime) -> Result<(), Fail> {
     let alloc = rt.alloc();
     let mut store = ExpressionStore::new(alloc);
-    let leaf = place(&rt, &mut store, Expr::Leaf(1))?;
-    let argument = place(&rt, &mut store, Expr::Ref(leaf))?;
-    let references = Items::from_slice(alloc, &[argument])?;
-    let references = place(&rt, &mut store, Expr::Tuple(references))?;
+    let references = references(&rt, alloc, &mut store)?;
     let list = argument_list(&rt, alloc, &mut store)?;
     let made = made_arguments(&rt, alloc, &mut store)?;
-    let pat = place_pat(&mut store, Name::fresh(0))?;
-    let first = Statement::Let {
-        pat,
-        initializer: references,
-    };
-    let second = Statement::Let {
-        pat,
-        initializer: list,
-    };
-    let block = Expr::Block {
-        statements: Items::from_slice(alloc, &[first, second])?,
-        tail: Some(made),
-        is_unsafe: false,
-    };
-    let block = place(&rt, &mut store, block)?;
+    let block = two_lets(&rt, alloc, &mut store, references, list, made)?;
     assert!(rt; stands(&store, block));
     let printed = print_outcomes(alloc, &store, &[Outcome::Code(block)])?;
     let line =

@@ -1,12 +1,9 @@
-use Rattle.cfgfmt.proofs.Refusals.{told_words, told_part}
+use Rattle.std.proofs.Common.{inr, subst, sym}
+use Rattle.cfgfmt.specs.Session.{IsNew}
+use Rattle.cfgfmt.proofs.Refusals.{told_front}
 use Rattle.cfgfmt.proofs.program.run.Goals as goal
 
-pub returns-in-Err-clause-words : goal.returns-in-Err-clause-words
-returns-in-Err-clause-words g c = told_words c.args.words.now (g.S.Source.left c.args.source.now) (g.S.Source.left c.answer.new.source) (g.S.Source.faults c.args.source.now) (g.S.Source.faults c.answer.new.source)
-    (g.K.Sink.written c.args.sink.now) (g.K.Sink.written c.tell.new.sink) (g.K.Sink.faults c.args.sink.now) (g.K.Sink.faults c.tell.new.sink)
-    c.in-Err.refusal c.tell.result c.in-Err.ensures.cause c.tell.ensures
-
 pub returns-in-Err-clause-part : goal.returns-in-Err-clause-part
-returns-in-Err-clause-part g c = told_part c.args.words.now (g.S.Source.left c.args.source.now) (g.S.Source.left c.answer.new.source) (g.S.Source.faults c.args.source.now) (g.S.Source.faults c.answer.new.source)
-    (g.K.Sink.written c.args.sink.now) (g.K.Sink.written c.tell.new.sink) (g.K.Sink.faults c.args.sink.now) (g.K.Sink.faults c.tell.new.sink)
-    c.answer.new.session c.in-Err.refusal c.tell.result c.in-Err.ensures.none c.in-Err.ensures.cause c.tell.ensures
+returns-in-Err-clause-part g c five = inr (told_front c.args.words.now (g.S.Source.state c.args.source.now) (g.S.Source.state c.answer.new.source)
+    (g.K.Sink.state c.args.sink.now) (g.K.Sink.state c.tell.new.sink) c.answer.new.session (subst IsNew (sym c.in-Err.ensures.kept) c.requires) c.tell.result
+    c.in-Err.refusal c.in-Err.ensures.refused five c.tell.ensures.told)

@@ -11,6 +11,6 @@ pub loop-element-preserved : goal.loop-element-preserved
 loop-element-preserved c =
     let stands = subst (λ place. Stands c.place_made.new.store c.in_ok-made.made (made_tree c.args.number (put_pair place Display))) c.named_place.ensures c.in_ok-made.ensures.stands in
     record {
-      stand = rw c.in_ok-parts.ensures.value (numbered_on _ c.args.number c.args.count c.loop-element.element _ _ (all_later _ _ _ _ c.in_ok-made.ensures.builds.grows c.loop-element.invariant.stand) stands);
+      stand = rw c.in_ok-push.ensures.items (numbered_on _ c.args.number c.args.count c.loop-element.element _ _ (all_later _ _ _ _ c.in_ok-made.ensures.builds.grows c.loop-element.invariant.stand) stands);
       builds = builds_within (builds_then c.loop-element.invariant.builds c.in_ok-made.ensures.builds) (omega arith) (omega arith);
     }

@@ -5,7 +5,7 @@ pub returns-clause-are : goal.returns-clause-are
 returns-clause-are c = record {
   first = c.in_ok-tuple.tuple;
   second = c.in_ok-array.array;
-  are = c.in_ok-lets.ensures.value;
+  are = c.in_ok-lets.ensures.items;
   one = let_later _ _ c.in_ok-array.ensures.builds.grows _ _ _ c.in_ok-tuple.ensures.is;
   other = c.in_ok-array.ensures.is;
 }

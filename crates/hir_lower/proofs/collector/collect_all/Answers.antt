@@ -3,18 +3,19 @@ use Rattle.std.proofs.Common.{◌∙◌, ap, sym, Err}
 use Rattle.std.proofs.lemmas.Result.{err_from_is_err_and}
 use Rattle.hir_lower.specs.declared.error.LowerError.TheVariants.{ArenaFull}
 use Rattle.hir_lower.proofs.Building.{builds_then, builds_within, outgrows_later}
-use Rattle.hir_lower.proofs.Outcomes.{outcomes_later, outcomes_on, in_store_later, in_store_on, rising_on, from_lower, most_on, lets_on, next_call, most_next, lets_next, longer}
+use Rattle.hir_lower.proofs.Outcomes.{outcomes_later, outcomes_on, in_store_later, in_store_on, lowers_on, rising_on, from_lower, most_on, lets_on, next_call, most_next, lets_next, longer}
 use Rattle.hir_lower.proofs.collector.collect_all.Goals as goal
 
 pub loop-call-preserved : goal.loop-call-preserved
 loop-call-preserved c =
     let next = next_call c.args.calls.now c.loop-call.call-index c.call-item.result c.loop-call-test.true c.call-item.is in
     record {
-      outcomes = rw (next, c.in_ok-outcomes.ensures.value) (outcomes_on c.args.opts.now _ _ _ _ c.in_ok-outcome.outcome
+      outcomes = rw (next, c.in_ok-push.ensures.items) (outcomes_on c.args.opts.now _ _ _ _ c.in_ok-outcome.outcome
           (outcomes_later _ _ c.loop-call.invariant.placed c.in_ok-outcome.ensures.builds.grows c.args.opts.now _ _ c.loop-call.invariant.outcomes) c.in_ok-outcome.ensures.outcome);
-      rising = rw c.in_ok-outcomes.ensures.value (rising_on c.loop-call.store _ _ c.in_ok-outcome.outcome c.loop-call.invariant.rising c.loop-call.invariant.within (from_lower _ _ c.in_ok-outcome.outcome (longer _ _ c.loop-call.invariant.builds.grows) c.in_ok-outcome.ensures.later) c.in_ok-outcome.ensures.later);
-      within = rw c.in_ok-outcomes.ensures.value (in_store_on c.collect_call.new.store _ c.in_ok-outcome.outcome
+      rising = rw c.in_ok-push.ensures.items (rising_on c.loop-call.store _ _ c.in_ok-outcome.outcome c.loop-call.invariant.rising c.loop-call.invariant.within (from_lower _ _ c.in_ok-outcome.outcome (longer _ _ c.loop-call.invariant.builds.grows) c.in_ok-outcome.ensures.later) c.in_ok-outcome.ensures.later);
+      within = rw c.in_ok-push.ensures.items (in_store_on c.collect_call.new.store _ c.in_ok-outcome.outcome
           (in_store_later c.loop-call.store c.collect_call.new.store c.loop-call.invariant.placed c.in_ok-outcome.ensures.builds.grows _ c.loop-call.invariant.within) c.in_ok-outcome.ensures.within);
+      lowers = rw (next, c.in_ok-push.ensures.items) (lowers_on c.args.opts.now _ _ _ _ _ _ c.in_ok-outcome.outcome c.loop-call.invariant.lowers c.in_ok-outcome.ensures.lowers);
       placed = c.in_ok-outcome.ensures.builds.placed c.loop-call.invariant.placed;
       builds = rw (next, most_on c.args.opts.now (take c.loop-call.call-index c.args.calls.now) c.call-item.result, lets_on c.args.opts.now (take c.loop-call.call-index c.args.calls.now) c.call-item.result)
           (builds_then c.loop-call.invariant.builds c.in_ok-outcome.ensures.builds);
@@ -36,8 +37,8 @@ returns-in_err-outcome-clause-full c = λ full.
     (most_next c.args.opts.now c.args.calls.now c.loop-call.call-index c.call-item.result next)
     (lets_next c.args.opts.now c.args.calls.now c.loop-call.call-index c.call-item.result next)
 
-pub returns-in_err-outcomes-clause-builds : goal.returns-in_err-outcomes-clause-builds
-returns-in_err-outcomes-clause-builds c =
+pub returns-in_err-push-clause-builds : goal.returns-in_err-push-clause-builds
+returns-in_err-push-clause-builds c =
     let next = next_call c.args.calls.now c.loop-call.call-index c.call-item.result c.loop-call-test.true c.call-item.is in
     builds_within (builds_then c.loop-call.invariant.builds c.in_ok-outcome.ensures.builds)
     (most_next c.args.opts.now c.args.calls.now c.loop-call.call-index c.call-item.result next)

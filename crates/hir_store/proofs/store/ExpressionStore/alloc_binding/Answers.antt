@@ -3,7 +3,7 @@ use Rattle.std.proofs.Common.{rules, None}
 use Rattle.hir_store.specs.declared.pat.Binding.{Binding}
 use Rattle.hir_store.specs.Sources.{SameMaps}
 use Rattle.hir_store.specs.Store.{PlacesBinding}
-use Rattle.hir_store.proofs.Placed.{grows_by_binding, name_of_binding, placed_by_binding}
+use Rattle.hir_store.proofs.Placing.{grows_by_binding, name_of_binding, no_dangling_by_binding}
 use Rattle.hir_store.proofs.store.ExpressionStore.alloc_binding.Goals as goal
 
 pub returns-clause-grows : goal.returns-clause-grows
@@ -28,4 +28,4 @@ returns-clause-kept c = λ was.
     let binding : Binding = record { name = c.args.name; definition = None } in
     let places : PlacesBinding c.args.self.now binding c.from.result new = search rules in
     let maps : SameMaps c.args.self.now new = search rules in
-    placed_by_binding c.args.self.now new binding c.from.result places maps was tt
+    no_dangling_by_binding c.args.self.now new binding c.from.result places maps was tt

@@ -1,11 +1,13 @@
-use Rattle.std.proofs.Common.{◌&&◌, not, ◌∙◌, sym, ap, subst}
-use Rattle.ra_cfg.specs.Diff.{IsDiff, stands_in}
-use Rattle.ra_cfg.proofs.Walking.{apart_is_diff, stands_in-only}
+use Rattle.std.proofs.Common.{◌&&◌, not, ◌∙◌, ap}
+use Rattle.ra_cfg.specs.Diff.{stands_in}
+use Rattle.ra_cfg.proofs.Walking.{left_is_diff, stands_in-only}
 use Rattle.ra_cfg.proofs.cfg_diff.CfgDiff.new.Goals as goal
 
 pub invariant_of-result : goal.invariant_of-result
-invariant_of-result c =
-    subst IsDiff (λ i. record { enabled = sym c.keep_apart.ensures.left i; disabled = sym c.keep_apart.ensures.right i }) (apart_is_diff _ _ c.in_order-enable.ensures.sorted c.in_order-disable.ensures.sorted)
+invariant_of-result c = left_is_diff _ _ _ _ c.in_order-enable.ensures.sorted c.in_order-disable.ensures.sorted c.keep_apart.ensures.left c.keep_apart.ensures.right
+
+pub returns-clause-is_diff : goal.returns-clause-is_diff
+returns-clause-is_diff c = left_is_diff _ _ _ _ c.in_order-enable.ensures.sorted c.in_order-disable.ensures.sorted c.keep_apart.ensures.left c.keep_apart.ensures.right
 
 pub returns-clause-enabled : goal.returns-clause-enabled
 returns-clause-enabled c a =
