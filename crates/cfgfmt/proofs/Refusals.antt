@@ -14,7 +14,7 @@ use Rattle.cfgfmt.specs.declared.session.Session.{Session}
 use Rattle.cfgfmt.specs.declared.refusal.Refusal.{Refusal}
 use Rattle.cfgfmt.specs.declared.refusal.Refusal.TheVariants.{Usage, Syntax, Read, Memory, ArenaFull, TooLong}
 use Rattle.ra_cfg.specs.Options.{OptionSet}
-use Rattle.hir_lower.specs.declared.call.GatedCall.{GatedCall}
+use Rattle.gated_calls.specs.declared.call.GatedCall.{GatedCall}
 use Rattle.hir_lower.specs.Lowered.{most_exprs}
 use Rattle.cfgfmt.specs.Session.{IsNew}
 use Rattle.cfgfmt.specs.Refusal.{HasRead, IsFaulty, OutgrowsArena, is_reading_form, status_of, line_of, IsJustified, IsReadRefusal, IsScriptRefusal, IsLowerRefusal, refusal_of}

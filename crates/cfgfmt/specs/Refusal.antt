@@ -2,7 +2,7 @@
 use Rattle.std.specs.Prelude.{◌≡◌, ℕ, ◌+◌, ◌<◌, ◌≤◌, length, Bool, true, false, List, [], ◌∷◌, ◌++◌, codes}
 use Rattle.std.specs.Str.{bytes_eq}
 use Rattle.std.specs.Fmt.{decimal}
-use Rattle.hir_lower.specs.declared.call.GatedCall.{GatedCall}
+use Rattle.gated_calls.specs.declared.call.GatedCall.{GatedCall}
 use Rattle.ra_cfg.specs.Options.{OptionSet}
 use Rattle.hir_lower.specs.Lowered.{most_exprs}
 use Rattle.causes.specs.Causes.{Rose}

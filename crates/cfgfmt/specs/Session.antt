@@ -2,8 +2,8 @@
 use Rattle.std.specs.Prelude.{◌≡◌, ◌≤◌, ℕ, List, [], length}
 use Rattle.hir_store.specs.declared.store.ExpressionStore.{ExpressionStore}
 use Rattle.hir_store.specs.Store.{NoDanglingIds, IsEmptyStore}
-use Rattle.hir_lower.specs.declared.call.GatedCall.{GatedCall}
-use Rattle.hir_lower.specs.declared.call.Outcome.{Outcome}
+use Rattle.gated_calls.specs.declared.call.GatedCall.{GatedCall}
+use Rattle.hir_lower.specs.declared.outcome.Outcome.{Outcome}
 use Rattle.ra_cfg.specs.Options.{OptionSet, only_true}
 use Rattle.hir_lower.specs.Lowered.{AreOutcomes, AreRising, AreInStore, Lowers}
 use Rattle.script.specs.Limit.{max_script_len}

@@ -13,11 +13,11 @@ use Rattle.hir_lower.specs.Building.{Outgrows}
 use Rattle.code_meaning.specs.Value.{Event}
 use Rattle.code_meaning.specs.Evaluation.{evaluation_of}
 use Rattle.code_meaning.specs.Meaning.{Writes}
-use Rattle.hir_lower.specs.declared.call.GatedCall.{GatedCall}
-use Rattle.hir_lower.specs.declared.call.Call.{Call}
-use Rattle.hir_lower.specs.declared.call.Call.TheVariants.{Format}
-use Rattle.hir_lower.specs.declared.call.Outcome.{Outcome}
-use Rattle.hir_lower.specs.declared.call.Outcome.TheVariants.{Off, Code}
+use Rattle.gated_calls.specs.declared.call.GatedCall.{GatedCall}
+use Rattle.gated_calls.specs.declared.call.Call.{Call}
+use Rattle.gated_calls.specs.declared.call.Call.TheVariants.{Format}
+use Rattle.hir_lower.specs.declared.outcome.Outcome.{Outcome}
+use Rattle.hir_lower.specs.declared.outcome.Outcome.TheVariants.{Off, Code}
 use Rattle.hir_lower.specs.Lowered.{Runs, IsCode, IsOutcome, AreOutcomes, AreRising, IsFrom, IsInStore, AreInStore, most_of_call, most_of, most_exprs, lets_of, most_lets, LowersCall, Lowers}
 
 module _ (old new : ExpressionStore) (placed : NoDanglingIds old) (grows : Grows old new) where

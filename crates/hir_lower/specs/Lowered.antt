@@ -19,11 +19,11 @@ use Rattle.syn_trees.specs.declared.format_call.FormatArgSyntax.{FormatArgSyntax
 use Rattle.syn_trees.specs.declared.format_call.LeafSyntax.{LeafSyntax}
 use Rattle.syn_trees.specs.Literal.{HasValue}
 use Rattle.syn_trees.specs.ReadString.{value_of}
-use Rattle.hir_lower.specs.declared.call.GatedCall.{GatedCall}
-use Rattle.hir_lower.specs.declared.call.Call.{Call}
-use Rattle.hir_lower.specs.declared.call.Call.TheVariants.{Format}
-use Rattle.hir_lower.specs.declared.call.Outcome.{Outcome}
-use Rattle.hir_lower.specs.declared.call.Outcome.TheVariants.{Off, Code}
+use Rattle.gated_calls.specs.declared.call.GatedCall.{GatedCall}
+use Rattle.gated_calls.specs.declared.call.Call.{Call}
+use Rattle.gated_calls.specs.declared.call.Call.TheVariants.{Format}
+use Rattle.hir_lower.specs.declared.outcome.Outcome.{Outcome}
+use Rattle.hir_lower.specs.declared.outcome.Outcome.TheVariants.{Off, Code}
 use Rattle.hir_lower.specs.declared.template_text.Part.{Part}
 use Rattle.hir_lower.specs.Pieces.{HasPieces, placeholders}
 use Rattle.hir_lower.specs.Parts.{parts_of, holes}

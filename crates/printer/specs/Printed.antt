@@ -11,8 +11,8 @@ use Rattle.hir_store.specs.declared.lang_item.LangFn.TheVariants.{New, FromStr, 
 use Rattle.hir_store.specs.declared.store.ExpressionStore.{ExpressionStore}
 use Rattle.hir_store.specs.Tree.{Tree, Trees, Steps, Bad, Missing, Leaf, Path, LangPath, Text, Bytes, Ref, Tuple, Field, Array, Call, Block, Empty, More, End, Tail, Let, Nameless, Do}
 use Rattle.hir_store.specs.Unfolding.{tree_at}
-use Rattle.hir_lower.specs.declared.call.Outcome.{Outcome}
-use Rattle.hir_lower.specs.declared.call.Outcome.TheVariants.{Off, Code}
+use Rattle.hir_lower.specs.declared.outcome.Outcome.{Outcome}
+use Rattle.hir_lower.specs.declared.outcome.Outcome.TheVariants.{Off, Code}
 
 -- what a language item is printed as
 abbrev pub item_word : LangItem → List ℕ

@@ -13,8 +13,8 @@ use Rattle.text_cut.proofs.Longer.{spelled_before, reach_longer}
 use Rattle.text_cut.proofs.SoFar.{so_far_begins, so_far_more}
 use Rattle.ra_cfg.specs.declared.cfg_expr.CfgExpr.{CfgExpr}
 use Rattle.ra_cfg.specs.Options.{OptionSet, only_true}
-use Rattle.hir_lower.specs.declared.call.GatedCall.{GatedCall}
-use Rattle.hir_lower.specs.declared.call.Call.TheVariants.{Format}
+use Rattle.gated_calls.specs.declared.call.GatedCall.{GatedCall}
+use Rattle.gated_calls.specs.declared.call.Call.TheVariants.{Format}
 use Rattle.script.specs.declared.reading.Reading.{Reading}
 use Rattle.script.specs.Script.{Item, Blank, OptionItem, PredicateItem, FormatItem, IsItem, AreItems, AreCalls, BreaksAt, format_call, changed, calls_behind, calls_of, options_with, options_of}
 use Rattle.script.specs.ReadItem.{item_at}

@@ -1,7 +1,7 @@
 -- What holds of all scripts.
 use Rattle.std.specs.Prelude.{◌≡◌, ℕ, List}
 use Rattle.ra_cfg.specs.Options.{OptionSet}
-use Rattle.hir_lower.specs.declared.call.GatedCall.{GatedCall}
+use Rattle.gated_calls.specs.declared.call.GatedCall.{GatedCall}
 use Rattle.script.specs.Script.{IsScript, IsFaultLine}
 
 -- bytes are a script with at most one set of options and one list of calls, and have at most one fault line

@@ -11,8 +11,8 @@ use Rattle.ra_cfg.specs.Options.{OptionSet, with_free, with_answer, only_true}
 use Rattle.syn_trees.specs.declared.format_call.Template.TheVariants.{Str}
 use Rattle.syn_trees.specs.declared.format_call.FormatCall.{FormatCall}
 use Rattle.syn_trees.specs.declared.format_call.FormatArgSyntax.{FormatArgSyntax}
-use Rattle.hir_lower.specs.declared.call.GatedCall.{GatedCall}
-use Rattle.hir_lower.specs.declared.call.Call.TheVariants.{Format}
+use Rattle.gated_calls.specs.declared.call.GatedCall.{GatedCall}
+use Rattle.gated_calls.specs.declared.call.Call.TheVariants.{Format}
 use Rattle.script.specs.Line.{IsLine}
 use Rattle.script.specs.Bodies.{Change, SetFlag, SetPair, SetVersion, OptBody, VersionBody, CfgBody, AttrBody, CallText, FormatBody}
 

@@ -5,7 +5,7 @@ ghost use Rattle.script.specs.ItemOf.{item_of, AreArguments, IsNumbered, leaf_of
 ghost use Rattle.script.specs.ReadCalls.{IsEmpty, GoesOn};
 
 use crate::item::ScriptItem;
-use hir_lower::{Call, GatedCall};
+use gated_calls::{Call, GatedCall};
 use ra_cfg::{CfgExpr, CfgOptions};
 use sqlite_items::Items;
 use std::alloc::{AllocError, Global};

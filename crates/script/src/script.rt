@@ -5,7 +5,7 @@ ghost use Rattle.script.specs.Fault.{FaultIs, BreakIs};
 
 use crate::item::read_item;
 use crate::reading::Reading;
-use hir_lower::GatedCall;
+use gated_calls::GatedCall;
 use ra_cfg::CfgOptions;
 use std::alloc::{AllocError, Global};
 use std::str;
@@ -171,7 +171,7 @@ pub fn read_script(alloc: Global, bytes: &[u8]) -> Result<Script, ScriptError>
 #[cfg(test)]
 mod tests {
     use super::*;
-    use hir_lower::Call;
+    use gated_calls::Call;
     use ra_cfg::{CfgAtom, CfgExpr};
     use std::test::Fail;
     use sym_core::{AstPtr, Symbol};

@@ -1,4 +1,3 @@
-use hir_store::ExprId;
 use ra_cfg::CfgExpr;
 use sqlite_items::Items;
 use syn_trees::FormatCall;
@@ -17,13 +16,4 @@ pub struct GatedCall {
 pub enum Call {
     /// `format_args!`
     Format(FormatCall),
-}
-
-/// What becomes of a call.
-#[derive(Debug, PartialEq, Eq, Drop)]
-pub enum Outcome {
-    /// The call is off: one of its predicates evaluates to `Some(false)`.
-    Off,
-    /// The call is lowered to the expression at this place.
-    Code(ExprId),
 }
