@@ -11,8 +11,6 @@ mod hashable;
 mod laws;
 mod parse_ast;
 mod parse_tokens;
-#[cfg(test)]
-mod tests;
 
 pub use cfg_diff::CfgDiff;
 pub use cfg_expr::{CfgAtom, CfgExpr};

@@ -1,6 +1,6 @@
 use Rattle.std.proofs.Common.{◌≡◌, List, [], ◌∷◌, ◌++◌, ◌∙◌}
 use Rattle.ra_cfg.proofs.SameDiffs.{one_is_left}
-use Rattle.ra_cfg.proofs.tests.one_is_left.Goals as goal
+use Rattle.ra_cfg_tests.proofs.tests.one_is_left.Goals as goal
 
 -- a list to which one element is pushed
 pushed : {X : Type 0} (old new whole : List X) (x y : X) → old ≡ whole → new ≡ old ++ x ∷ [] → x ≡ y → new ≡ whole ++ y ∷ []

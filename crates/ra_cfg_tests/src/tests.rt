@@ -1,6 +1,6 @@
 ghost use Rattle.std.specs.Prelude.{◌≡◌, ◌↔◌, IfOk, IsTrue};
 
-use crate::{CfgAtom, CfgDiff, CfgExpr, CfgOptions};
+use ra_cfg::{CfgAtom, CfgDiff, CfgExpr, CfgOptions};
 use sqlite_items::{Boxed, Items};
 use std::alloc::{AllocError, Global};
 use std::hash::{DefaultHasher, Hash, Hasher};
@@ -345,7 +345,7 @@ fn diffs_keep_their_lists_apart(rt: HostRuntime) -> Result<(), Fail> {
 }
 
 // What `==` tells is known to its callers.
-#[tactic(auto, using(crate::proofs::Deciding::equality))]
+#[tactic(auto, using(ra_cfg::proofs::Deciding::equality))]
 fn is_equal(left: &CfgExpr, right: &CfgExpr) -> bool
     ensures { IsTrue result ↔ (left.now ≡ right.now) }
 {
