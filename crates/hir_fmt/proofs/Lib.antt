@@ -1,0 +1,9 @@
+pub mod FirstPlaces
+pub mod Copies
+pub mod Names
+pub mod Walks
+pub mod Templates
+pub mod Lookups
+pub mod Placeholders
+pub mod Marks
+pub mod Parsing

@@ -1,0 +1,16 @@
+pub mod Names
+pub mod Arguments
+pub mod Firsts
+pub mod Lends
+pub mod Same
+pub mod References
+pub mod Referred
+pub mod Template
+pub mod Log
+pub mod Walk
+pub mod Refusal
+pub mod Literal
+pub mod Making
+pub mod Parsed
+pub mod Reading
+pub mod Orphans
