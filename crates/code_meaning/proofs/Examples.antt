@@ -6,7 +6,7 @@ use Rattle.hir_store.specs.declared.lang_item.LangItem.TheVariants.{FormatArgume
 use Rattle.hir_store.specs.declared.lang_item.LangFn.TheVariants.{New, FromStr, NewDisplay, FromUsize}
 use Rattle.hir_store.specs.Tree.{Tree, Missing, Leaf, Path, LangPath, Text, Bytes, Ref, Tuple, Field, Array, Call, Block, Empty, More, Tail, Let, Do}
 use Rattle.code_meaning.specs.Write.{Display, Right, FormattingOptions, NoCount, Is, Of, Byte, Put, Literal, Placeholder, writes_of}
-use Rattle.code_meaning.specs.Value.{Event, LeafEvent, NameEvent, Value, At, FromText, Arguments, Made, By, AsCount}
+use Rattle.code_meaning.specs.Value.{LeafEvent, NameEvent, At, FromText, Arguments, Made, By, AsCount}
 use Rattle.code_meaning.specs.Value as value
 use Rattle.code_meaning.specs.Evaluation.{evaluation_of}
 use Rattle.code_meaning.specs.Template.{TemplateItem, ByteItem, SlotItem, decoded}

@@ -1,9 +1,8 @@
 -- What is entered and left inside of a macro's file leaves the expander as it was, or at an overflow.
-use Rattle.std.proofs.Common.{◌≡◌, ℕ, ◌+◌, ◌-◌, ◌≤◌, Bool, true, false, cond, nat_eq, nat_lt, ◌||◌, refl, sym, ap, ◌∙◌, arith}
+use Rattle.std.proofs.Common.{◌≡◌, ℕ, ◌+◌, ◌≤◌, Bool, true, false, cond, nat_eq, nat_lt, ◌||◌, refl, ap, ◌∙◌, arith}
 use Rattle.std.proofs.lemmas.Bool.Decides.{nat_tests}
 use Rattle.sym_core.specs.declared.files.MacroCallId.{MacroCallId}
 use Rattle.hir_expander.specs.declared.macros.FileMaps.{FileMaps}
-use Rattle.hir_expander.specs.CurrentFile.{CurrentFile}
 use Rattle.hir_expander.specs.Machine.{Machine, max_recursion_limit, overflow, Step, Idle, TooDeep, Inside, step_into, overflown, entered, exited, depth_behind, is_macro}
 use Rattle.hir_expander.specs.Nested.{Nest, Done, Entry, behind_step, runs, step_overflows, overflows, IsEntered, outermost, overflows_inside}
 

@@ -1,5 +1,5 @@
 -- A call of which nothing is entered reaches nothing.
-use Rattle.std.proofs.Common.{◌≡◌, ℕ, zero, suc, ◌+◌, ◌-◌, ◌≤◌, Bool, true, false, cond, nat_eq, nat_lt, List, Option, Some, None, refl, sym, subst, ◌∙◌, arith}
+use Rattle.std.proofs.Common.{◌≡◌, ℕ, zero, suc, ◌+◌, ◌-◌, ◌≤◌, Bool, true, false, cond, nat_eq, nat_lt, List, Option, Some, None, refl, subst, arith}
 use Rattle.std.proofs.lemmas.Bool.Decides.{nat_tests}
 use Rattle.sym_core.specs.declared.files.HirFileId.{HirFileId}
 use Rattle.sym_core.specs.declared.files.MacroCallId.{MacroCallId}
@@ -9,8 +9,8 @@ use Rattle.syn_trees.specs.declared.format_call.Template.TheVariants as template
 use Rattle.hir_expander.specs.declared.macros.FileMaps.{FileMaps}
 use Rattle.hir_expander.specs.declared.expand_result.ExpandResult.{ExpandResult}
 use Rattle.hir_expander.specs.Answers.{AnswersId, GivesValue}
-use Rattle.hir_expander.specs.Machine.{Machine, max_recursion_limit, overflow, Step, Idle, Pathless, Unresolved, TooDeep, Inside, after, step_along, step_into, step_of}
-use Rattle.hir_expander.specs.Reached.{along, from_expansion, reached}
+use Rattle.hir_expander.specs.Machine.{Machine, max_recursion_limit, overflow, Step, Idle, Pathless, Unresolved, TooDeep, Inside, after, step_along, step_of}
+use Rattle.hir_expander.specs.Reached.{from_expansion, reached}
 
 -- an expander that is at no overflow
 pub record IsBelow (machine : Machine) : Type 0 where

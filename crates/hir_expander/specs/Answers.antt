@@ -4,7 +4,6 @@ use Rattle.std.specs.Borrow.{Bor}
 use Rattle.sym_core.specs.declared.files.MacroCallId.{MacroCallId}
 use Rattle.syn_trees.specs.declared.format_call.Template.{Template}
 use Rattle.hir_expander.specs.declared.expand_result.ExpandResult.{ExpandResult}
-use Rattle.hir_expander.specs.declared.expand_result.ExpandError.{ExpandError}
 use Rattle.hir_expander.specs.declared.expand_result.ExpandError.TheVariants.{RecursionOverflow, Malformed}
 use Rattle.hir_expander.specs.declared.expand_result.UnresolvedMacro.{UnresolvedMacro}
 use Rattle.hir_expander.specs.CurrentFile.{CurrentFile}

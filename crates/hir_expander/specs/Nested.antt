@@ -2,7 +2,7 @@
 use Rattle.std.specs.Prelude.{◌≡◌, ◌≤◌, Bool, true, false, ◌||◌}
 use Rattle.sym_core.specs.declared.files.MacroCallId.{MacroCallId}
 use Rattle.hir_expander.specs.declared.macros.FileMaps.{FileMaps}
-use Rattle.hir_expander.specs.Machine.{Machine, max_recursion_limit, Step, Idle, Pathless, Unresolved, TooDeep, Inside, step_into, overflown, entered, exited, is_macro}
+use Rattle.hir_expander.specs.Machine.{Machine, max_recursion_limit, Step, Idle, Pathless, Unresolved, TooDeep, Inside, step_into, overflown, entered, exited}
 
 -- nothing more; or the entry of an expansion with these maps, what happens inside of it, and what follows its exit
 pub data Nest : Type 0 where

@@ -1,6 +1,5 @@
 -- Copies of a collector's parts are the originals.
-use Rattle.std.proofs.Common.{◌≡◌, ℕ, List, sym, ap, subst, ◌∙◌}
-use Rattle.std.specs.List.{AllZip}
+use Rattle.std.proofs.Common.{◌≡◌, ℕ, sym, ap, subst, ◌∙◌}
 use Rattle.std.specs.HashMap.{HashMap, IsClone}
 use Rattle.std.proofs.lemmas.Map.Entries.{entries_from_clone}
 use Rattle.sym_core.specs.contracts.name.NameClone.TheImpl as name_clone

@@ -1,11 +1,9 @@
 -- Looking up one reference: the place that is found, and what is told.
-use Rattle.std.proofs.Common.{◌≡◌, ℕ, ◌+◌, Bool, true, false, cond, nat_lt, List, [], ◌∷◌, ◌++◌, length, map, Option, Some, None, refl, ap, ◌∙◌, sym, append_assoc, arith}
-use Rattle.std.specs.Prelude.{is_some, option_map}
-use Rattle.std.specs.Map.{keys_of, lookup}
-use Rattle.std.specs.List.{list_any}
+use Rattle.std.proofs.Common.{◌≡◌, ℕ, ◌+◌, Bool, true, false, cond, nat_lt, List, [], ◌∷◌, ◌++◌, length, Option, Some, None, refl, ap, ◌∙◌, sym, arith}
+use Rattle.std.specs.Prelude.{is_some}
+use Rattle.std.specs.Map.{keys_of}
 use Rattle.std.proofs.lemmas.List.{append-nil}
 use Rattle.std.proofs.lemmas.Map.Made.{is_some-lookup}
-use Rattle.either.specs.declared.Either.{Either}
 use Rattle.either.specs.declared.Either.TheVariants.{Left, Right}
 use Rattle.sym_core.specs.declared.name.Name.{Name}
 use Rattle.sym_core.specs.declared.files.AstPtr.{AstPtr}
@@ -18,7 +16,7 @@ use Rattle.hir_fmt.specs.Arguments.{unnamed_count, with_argument}
 use Rattle.hir_fmt.specs.Firsts.{same_name, first_place}
 use Rattle.hir_fmt.specs.Referred.{name_wanted, names_wanted, is_among, new_names, new_if, placed, refers}
 use Rattle.hir_fmt.specs.Log.{Entry, Usage, Made, Logs}
-use Rattle.hir_fmt.specs.Walk.{Told, Used, Asked, told_name, told_wanted, told, told_by, captured_argument, with_made, Finds, Halts, Looks, Stops, IsCaptured, StopsCapture, place_for}
+use Rattle.hir_fmt.specs.Walk.{Asked, told_name, told_wanted, told, captured_argument, with_made, Finds, Halts, Looks, Stops, IsCaptured, StopsCapture, place_for}
 use Rattle.hir_fmt.proofs.Walks.{logs_none, logs_more, nothing_made}
 
 found_step : (b : Bool) (p place : ℕ) (r s : Option ℕ) → cond b (Some p) r ≡ Some place → (r ≡ Some place → s ≡ Some place) → cond b (Some p) s ≡ Some place

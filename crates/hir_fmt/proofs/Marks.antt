@@ -1,7 +1,6 @@
 -- The marks of a finished template are those of the places that its references refer to.
 use Rattle.std.proofs.Common.{◌≡◌, ℕ, ◌+◌, ◌<◌, zero, suc, Bool, true, false, cond, ◌||◌, List, [], ◌∷◌, ◌++◌, length, Option, Some, None, refl, ap, ◌∙◌, sym, append_assoc, arith}
 use Rattle.std.specs.Prelude.{nat_eq, slice_set, replicate, take}
-use Rattle.std.specs.List.{list_any}
 use Rattle.std.proofs.lemmas.List.{append-nil}
 use Rattle.std.proofs.lemmas.Bool.Decides.{nat_tests}
 use Rattle.either.specs.declared.Either.{Either}
@@ -13,7 +12,7 @@ use Rattle.fmt_parse.specs.declared.piece.Piece.TheVariants.{Lit, NextArgument}
 use Rattle.hir_store.specs.declared.ids.ExprId.{ExprId}
 use Rattle.hir_fmt.specs.declared.format_args.FormatArgument.{FormatArgument}
 use Rattle.hir_fmt.specs.declared.format_args.FormatArgsPiece.{FormatArgsPiece}
-use Rattle.hir_fmt.specs.declared.format_args.FormatArgsPiece.TheVariants.{Literal, Placeholder}
+use Rattle.hir_fmt.specs.declared.format_args.FormatArgsPiece.TheVariants.{Placeholder}
 use Rattle.hir_fmt.specs.declared.reference.Reference.{Reference}
 use Rattle.hir_fmt.specs.References.{Source, text_in, Counted, value_of, precision_of, width_of, asked, references_in, references_of}
 use Rattle.hir_fmt.specs.Template.{found_or, count_of, literal_of, placeholder_of, template_from, template_of}

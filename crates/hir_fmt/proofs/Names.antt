@@ -9,7 +9,7 @@ use Rattle.sym_core.specs.declared.files.AstPtr.{AstPtr}
 use Rattle.sym_core.specs.declared.text_range.TextRange.{TextRange}
 use Rattle.hir_fmt.specs.declared.format_args.FormatArguments.{FormatArguments}
 use Rattle.hir_fmt.specs.declared.reference.Reference.{Reference}
-use Rattle.hir_fmt.specs.Referred.{name_wanted, names_wanted, is_among, new_names, new_if, captured, placed, all_names, finder, refers}
+use Rattle.hir_fmt.specs.Referred.{name_wanted, names_wanted, is_among, new_names, new_if, captured, placed, finder, refers}
 use Rattle.hir_fmt.specs.Log.{Entry, Usage, Made}
 use Rattle.hir_fmt.specs.Walk.{Told, Used, Asked, told_name, told_wanted, told, told_by, asked_names, captured_argument, arguments_made, with_made}
 

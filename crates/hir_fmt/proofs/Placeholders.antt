@@ -1,5 +1,5 @@
 -- Looking up what a placeholder refers to.
-use Rattle.std.proofs.Common.{◌≡◌, ℕ, ◌+◌, Bool, true, false, List, [], ◌∷◌, ◌++◌, length, map, Option, Some, None, refl, ap, ◌∙◌, sym, subst, append_assoc, arith}
+use Rattle.std.proofs.Common.{◌≡◌, ℕ, ◌+◌, Bool, List, [], ◌∷◌, ◌++◌, Option, Some, None, ap, ◌∙◌, sym, subst, append_assoc}
 use Rattle.std.specs.Prelude.{option_map, take, drop}
 use Rattle.std.specs.declared.result.Result.{Result}
 use Rattle.std.proofs.lemmas.List.{append-nil, take-append-drop}
@@ -12,7 +12,7 @@ use Rattle.sym_core.specs.declared.name.Name.{Name}
 use Rattle.sym_core.specs.declared.files.AstPtr.{AstPtr}
 use Rattle.fmt_parse.specs.declared.piece.Argument.{Argument}
 use Rattle.fmt_parse.specs.declared.piece.Piece.{Piece}
-use Rattle.fmt_parse.specs.declared.piece.Piece.TheVariants.{Lit, NextArgument}
+use Rattle.fmt_parse.specs.declared.piece.Piece.TheVariants.{NextArgument}
 use Rattle.hir_fmt.specs.declared.format_args.FormatArguments.{FormatArguments}
 use Rattle.hir_fmt.specs.declared.format_args.FormatArgPosition.{FormatArgPosition}
 use Rattle.hir_fmt.specs.declared.format_args.FormatCount.{FormatCount}

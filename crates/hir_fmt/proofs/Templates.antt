@@ -1,14 +1,13 @@
 -- Adding one piece after the other makes the template of all of them.
-use Rattle.std.proofs.Common.{◌≡◌, ℕ, ◌+◌, List, [], ◌∷◌, ◌++◌, length, Option, Some, None, refl, ap, ◌∙◌, sym, append_assoc, arith}
+use Rattle.std.proofs.Common.{◌≡◌, ℕ, ◌+◌, List, [], ◌∷◌, ◌++◌, Option, refl, ap, ◌∙◌, sym, append_assoc}
 use Rattle.either.specs.declared.Either.{Either}
 use Rattle.sym_core.specs.declared.name.Name.{Name}
 use Rattle.fmt_parse.specs.declared.piece.Piece.{Piece}
 use Rattle.fmt_parse.specs.declared.piece.Piece.TheVariants.{Lit, NextArgument}
 use Rattle.hir_fmt.specs.declared.format_args.FormatArgsPiece.{FormatArgsPiece}
-use Rattle.hir_fmt.specs.declared.format_args.FormatArgsPiece.TheVariants.{Literal, Placeholder}
-use Rattle.hir_fmt.specs.declared.reference.Reference.{Reference}
+use Rattle.hir_fmt.specs.declared.format_args.FormatArgsPiece.TheVariants.{Placeholder}
 use Rattle.hir_fmt.specs.References.{Source, text_in, references_in, references_of}
-use Rattle.hir_fmt.specs.Template.{literal_of, placeholder_of, template_from, template_of, piece_added, pieces_added}
+use Rattle.hir_fmt.specs.Template.{literal_of, placeholder_of, template_from, piece_added, pieces_added}
 
 pub references_append : (source : Source) (xs ys : List Piece) → references_of source (xs ++ ys) ≡ references_of source xs ++ references_of source ys
 references_append source [] ys = refl

@@ -1,9 +1,9 @@
 -- Looking up some references and then others is looking up all of them.
-use Rattle.std.proofs.Common.{◌≡◌, ℕ, ◌+◌, Bool, true, false, List, [], ◌∷◌, ◌++◌, length, map, Option, Some, None, refl, ap, ◌∙◌, sym, subst, append_assoc, arith}
+use Rattle.std.proofs.Common.{◌≡◌, ℕ, ◌+◌, Bool, List, [], ◌++◌, map, Option, Some, None, refl, ap, ◌∙◌, sym, subst, append_assoc}
 use Rattle.std.specs.Prelude.{option_map, Ok, Err, IfOk, OnErr}
 use Rattle.std.specs.declared.result.Result.{Result}
 use Rattle.std.specs.Map.{keys_of}
-use Rattle.std.proofs.lemmas.List.{append-nil, map-append, length-append}
+use Rattle.std.proofs.lemmas.List.{append-nil, map-append}
 use Rattle.either.specs.declared.Either.{Either}
 use Rattle.sym_core.specs.declared.name.Name.{Name}
 use Rattle.sym_core.specs.declared.files.AstPtr.{AstPtr}
@@ -11,7 +11,7 @@ use Rattle.hir_fmt.specs.declared.format_args.FormatArguments.{FormatArguments}
 use Rattle.hir_fmt.specs.declared.reference.Reference.{Reference}
 use Rattle.hir_fmt.specs.Referred.{captured, finder}
 use Rattle.hir_fmt.specs.Log.{Entry, Logs}
-use Rattle.hir_fmt.specs.Walk.{Told, told, told_by, with_made, Finds, Halts}
+use Rattle.hir_fmt.specs.Walk.{told, told_by, with_made, Finds, Halts}
 use Rattle.hir_fmt.proofs.Names.{told_more, told_behind, finder_behind, made_more}
 
 -- entries behind others

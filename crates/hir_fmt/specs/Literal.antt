@@ -1,5 +1,5 @@
 -- A format text as the code holds it.
-use Rattle.std.specs.Prelude.{ℕ, ◌+◌, ◌≤◌, List, length, Option, IfSome}
+use Rattle.std.specs.Prelude.{◌+◌, ◌≤◌, length, IfSome}
 use Rattle.sym_core.specs.declared.text_range.TextRange.{TextRange}
 use Rattle.text_cut.specs.Part.{IsPart}
 use Rattle.hir_fmt.specs.declared.literal.Literal.{Literal}

@@ -1,13 +1,11 @@
 -- Which arguments a finished template refers to.
-use Rattle.std.specs.Prelude.{ℕ, ◌+◌, Bool, true, false, List, [], ◌∷◌, ◌++◌, Option, Some, None, Ok, Err, slice_set, take}
+use Rattle.std.specs.Prelude.{ℕ, ◌+◌, Bool, true, false, List, [], ◌∷◌, ◌++◌, Option, Some, None, Ok, Err, slice_set}
 use Rattle.std.specs.declared.result.Result.{Result}
 use Rattle.either.specs.declared.Either.{Either}
 use Rattle.sym_core.specs.declared.name.Name.{Name}
 use Rattle.hir_store.specs.declared.ids.ExprId.{ExprId}
 use Rattle.hir_fmt.specs.declared.format_args.FormatCount.{FormatCount}
 use Rattle.hir_fmt.specs.declared.format_args.FormatCount.TheVariants.{Literal as Written, Argument}
-use Rattle.hir_fmt.specs.declared.format_args.FormatArgPosition.{FormatArgPosition}
-use Rattle.hir_fmt.specs.declared.format_args.FormatPlaceholder.{FormatPlaceholder}
 use Rattle.hir_fmt.specs.declared.format_args.FormatArgument.{FormatArgument}
 use Rattle.hir_fmt.specs.declared.format_args.FormatArgsPiece.{FormatArgsPiece}
 use Rattle.hir_fmt.specs.declared.format_args.FormatArgsPiece.TheVariants.{Literal, Placeholder}

@@ -1,5 +1,5 @@
 -- What is read of a literal.
-use Rattle.std.specs.Prelude.{◌≡◌, ℕ, ◌≤◌, List, length, Option, Some, None}
+use Rattle.std.specs.Prelude.{ℕ, ◌≤◌, List, length, Option, Some, None}
 use Rattle.std.specs.List.{All}
 use Rattle.std.specs.declared.vec.Vec.{Vec}
 use Rattle.syn_trees.specs.Literal.{HasValue, HasNoValue, FitsBetweenQuotes}
@@ -7,7 +7,7 @@ use Rattle.fmt_parse.specs.declared.piece.Piece.{Piece}
 use Rattle.fmt_parse.specs.Pieces.{ArePieces}
 use Rattle.fmt_parse.specs.Ranges.{RangesWithin}
 use Rattle.hir_fmt.specs.declared.read.Format.{Format}
-use Rattle.hir_fmt.specs.Parsed.{IsFormat, IsNoFormat}
+use Rattle.hir_fmt.specs.Parsed.{IsNoFormat}
 
 -- the literal has this value, which takes no more bytes than what stands between its quotes
 pub record IsValue (token text : List ℕ) : Type 0 where

@@ -1,6 +1,6 @@
 -- The arguments of a call: those that are written, then, where its text is a direct literal, one for each distinct name that the text
 -- refers to and no written argument bears; and which of them a reference refers to.
-use Rattle.std.specs.Prelude.{ℕ, ◌+◌, Bool, true, false, nat_eq, nat_lt, if◌then◌else◌, List, [], ◌∷◌, ◌++◌, length, take, Option, Some, None}
+use Rattle.std.specs.Prelude.{ℕ, ◌+◌, Bool, true, false, nat_eq, nat_lt, if◌then◌else◌, List, [], ◌∷◌, ◌++◌, length, Option, Some, None}
 use Rattle.std.specs.Map.{keys_of}
 use Rattle.std.specs.List.{list_any}
 use Rattle.either.specs.declared.Either.{Either}

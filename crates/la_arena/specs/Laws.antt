@@ -4,8 +4,6 @@ use Rattle.std.specs.Borrow.{RattleType}
 use Rattle.std.specs.Hash.{HashWrites, u32}
 use Rattle.std.specs.Ordering.{nat_cmp}
 use Rattle.std.specs.declared.cmp.Ordering.{Ordering}
-use Rattle.la_arena.specs.declared.idx.Idx.{Idx}
-use Rattle.la_arena.specs.declared.idx.RawIdx.{RawIdx}
 use Rattle.la_arena.specs.contracts.idx.IdxPartialEq.TheImpl as idx_eq
 use Rattle.la_arena.specs.contracts.idx.IdxPartialOrd.TheImpl as idx_partial_ord
 use Rattle.la_arena.specs.contracts.idx.IdxOrd.TheImpl as idx_ord

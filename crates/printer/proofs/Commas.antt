@@ -1,5 +1,5 @@
 -- Only a tuple of one has a comma behind its element.
-use Rattle.std.proofs.Common.{◌≡◌, ℕ, List, [], ◌∷◌, length, refl, arith, append_assoc}
+use Rattle.std.proofs.Common.{◌≡◌, List, [], ◌∷◌, length, refl, arith, append_assoc}
 use Rattle.hir_store.specs.declared.ids.ExprId.{ExprId}
 use Rattle.hir_store.specs.Tree.{Tree}
 use Rattle.hir_store.specs.Unfolding.{trees_of}

@@ -1,5 +1,5 @@
 -- The open brackets of a parser, the innermost first.
-use Rattle.std.proofs.Common.{◌≡◌, List, [], ◌∷◌, ◌++◌, length, reverse}
+use Rattle.std.proofs.Common.{◌≡◌, List, [], ◌∷◌, ◌++◌, reverse}
 use Rattle.std.proofs.lemmas.List.{reverse-append, length-reverse, append-nil}
 
 -- brackets that open last are the innermost

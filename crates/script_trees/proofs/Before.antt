@@ -1,5 +1,5 @@
 -- Trees in front of the end of a line are trees whatever follows that.
-use Rattle.std.proofs.Common.{◌≡◌, ℕ, true, List, [], ◌∷◌, ◌++◌, replicate, refl, ap, cond, ◌∙◌, sym, append_assoc}
+use Rattle.std.proofs.Common.{◌≡◌, ℕ, List, [], ◌∷◌, ◌++◌, replicate, refl, ap, cond, ◌∙◌, append_assoc}
 use Rattle.text_cut.specs.Runs.{AllPass, is_blank}
 use Rattle.text_cut.specs.Reading.{Spelled, texts, AreSpelled}
 use Rattle.syn_trees.specs.declared.token_tree.TokenTree.{TokenTree, Punct}

@@ -1,4 +1,4 @@
-use Rattle.std.proofs.Common.{◌≡◌, ◌∙◌, refl}
+use Rattle.std.proofs.Common.{◌∙◌, refl}
 use Rattle.hir_expander.proofs.Marks.{restored_whole, restored_depth}
 use Rattle.hir_expander.proofs.laws.marks_restore.Goals as goal
 

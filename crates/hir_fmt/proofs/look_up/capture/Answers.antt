@@ -1,5 +1,5 @@
 use Rattle.hir_fmt.proofs.Walks.{on_err}
-use Rattle.hir_fmt.proofs.Lookups.{is_captured, stops_used, stops_made}
+use Rattle.hir_fmt.proofs.Lookups.{stops_used, stops_made}
 use Rattle.hir_fmt.proofs.look_up.capture.Goals as goal
 
 pub returns-in_err-expr-clause-stopped : goal.returns-in_err-expr-clause-stopped

@@ -1,5 +1,5 @@
-use Rattle.std.proofs.Common.{rules, refl, ◌≡◌, true, false, None, Some, sym, ◌∙◌}
-use Rattle.hir_fmt.specs.Firsts.{first_place, same_name_is}
+use Rattle.std.proofs.Common.{rules, refl, ◌≡◌, true, false, sym, ◌∙◌}
+use Rattle.hir_fmt.specs.Firsts.{same_name_is}
 use Rattle.hir_fmt.proofs.Walks.{on_err}
 use Rattle.hir_fmt.proofs.Lookups.{looks_found, looks_unknown, looks_captured, stops_captured}
 use Rattle.hir_fmt.proofs.look_up.find_name.Goals as goal

@@ -2,7 +2,7 @@ use Rattle.std.proofs.Common.{ap, ◌∙◌, ◌≡◌, refl}
 use Rattle.hir_fmt.specs.References.{of_position, of_count, value_of, precision_of, width_of}
 use Rattle.hir_fmt.specs.Template.{trait_of}
 use Rattle.hir_fmt.specs.Literal.{source_of}
-use Rattle.hir_fmt.proofs.Walks.{on_err, halts_first, halts_then, halts_at_once}
+use Rattle.hir_fmt.proofs.Walks.{on_err, halts_at_once}
 use Rattle.hir_fmt.proofs.Placeholders.{filled_is, finds_filled, halts_value, halts_precision, halts_width}
 use Rattle.hir_fmt.proofs.placeholder.find_placeholder.Goals as goal
 

@@ -1,7 +1,7 @@
-use Rattle.std.proofs.Common.{refl, ap, ◌∙◌, take, ◌≡◌, arith}
+use Rattle.std.proofs.Common.{refl, ap, ◌∙◌, take, ◌≡◌}
 use Rattle.std.proofs.lemmas.List.{take_more, take_all}
 use Rattle.hir_fmt.specs.Literal.{source_of}
-use Rattle.hir_fmt.proofs.Walks.{on_err, halts_after}
+use Rattle.hir_fmt.proofs.Walks.{on_err}
 use Rattle.hir_fmt.proofs.Placeholders.{finds_begun, finds_turn, finds_end, halts_turn}
 use Rattle.hir_fmt.proofs.template.find_template.Goals as goal
 
