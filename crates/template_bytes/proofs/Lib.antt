@@ -1,0 +1,14 @@
+pub mod Bits
+pub mod FlagLaws
+pub mod SlotBytes
+pub mod SlotLaws
+pub mod ChunkLaws
+pub mod ReadChunks
+pub mod LiteralLaws
+pub mod PairLaws
+pub mod ShownPairLaws
+pub mod Said
+pub mod OneSpelling
+pub mod SomeSpelling
+pub mod DraftLaws
+pub mod EncoderLaws

@@ -1,0 +1,13 @@
+pub mod Canonical
+pub mod Pairs
+pub mod Flags
+pub mod Fields
+pub mod Chunks
+pub mod Cutting
+pub mod Spelling
+pub mod Reading
+pub mod Literals
+pub mod Draft
+pub mod Encoder
+pub mod Shown
+pub mod ShownPairs
