@@ -1,0 +1,144 @@
+-- Captures change no tree, and what stood before the code that has them grows all the same.
+use Rattle.std.proofs.Common.{◌≡◌, ◌≢◌, ℕ, ◌≤◌, List, [], ◌∷◌, length, reverse, drop, nat_eq, true, slice_get, unwrap_or, Option, Some, refl, sym, ap, ap₂, ◌∙◌, ◌+◌, subst, arith, eq-eqb}
+use Rattle.std.proofs.lemmas.List.{length-reverse}
+use Rattle.std.proofs.lemmas.Bool.{cond-true}
+use Rattle.la_arena.specs.Map.{slot_at, with_slot}
+use Rattle.la_arena.proofs.MapLemmas.{Updates-with_slot}
+use Rattle.sym_core.specs.declared.files.InFile.{InFile}
+use Rattle.sym_core.specs.declared.name.Name.{Name}
+use Rattle.sym_core.specs.declared.text_range.TextRange.{TextRange}
+use Rattle.hir_store.specs.declared.ids.ExprId.{ExprId}
+use Rattle.hir_store.specs.declared.expr.Expr.{Expr}
+use Rattle.hir_store.specs.declared.source.CaptureSource.{CaptureSource}
+use Rattle.hir_store.specs.declared.store.ExpressionStore.{ExpressionStore}
+use Rattle.hir_store.specs.Tree.{Tree}
+use Rattle.hir_store.specs.Unfolding.{place_of}
+use Rattle.hir_store.specs.Sources.{SameBelow}
+use Rattle.hir_store.specs.Store.{Grows}
+use Rattle.hir_build.specs.Frame.{Frame}
+use Rattle.hir_build.specs.Origins.{Origin, origin_at, node_origins, origins_in}
+use Rattle.hir_build.specs.Placed.{Placed}
+use Rattle.hir_build.specs.Building.{Builds}
+use Rattle.hir_build.specs.Captures.{with_capture, with_captures, Notes}
+use Rattle.hir_build.proofs.Origins.{same_functions, same_origins}
+
+module _ {A : Type 0} (limit : ℕ) (slots : List (Option A)) (place : ℕ) (slot : Option A) where
+  -- a write at the limit or behind it changes nothing below
+  same_by_write : (old : List (Option A)) → limit ≤ place → SameBelow limit old slots → SameBelow limit old (with_slot slots place slot)
+  same_by_write old le was number lt =
+      let other : number ≢ place = λ e. omega (arith, e, le, lt) in
+      (Updates-with_slot slots (with_slot slots place slot) place slot refl).others number other ∙ was number lt
+
+-- the place of a name that is captured
+
+module _ (store : ExpressionStore) (id : ExprId) (source : InFile CaptureSource) where
+  -- an older store grows to it
+  captured_grows : (old : ExpressionStore) → Grows old store → length old.exprs ≤ place_of id → Grows old (with_capture store id source)
+  captured_grows old grows le = record {
+    exprs = grows.exprs;
+    pats = grows.pats;
+    bindings = grows.bindings;
+    older = record {
+      sources = grows.older.sources;
+      capture_sources = same_by_write (length old.exprs) store.implicit_capture_to_source (place_of id) (Some source) old.implicit_capture_to_source le grows.older.capture_sources;
+      captures = grows.older.captures;
+    };
+  }
+
+  -- the map has the place
+  captured_at : slot_at (with_capture store id source).implicit_capture_to_source (place_of id) ≡ Some source
+  captured_at = (Updates-with_slot store.implicit_capture_to_source (with_slot store.implicit_capture_to_source (place_of id) (Some source)) (place_of id) (Some source) refl).changed
+
+-- the origins among expressions in front of the one that is captured
+captured_before : (store : ExpressionStore) (id : ExprId) (source : InFile CaptureSource) (es : List Expr) → length es ≤ place_of id → origins_in (with_capture store id source) es ≡ origins_in store es
+captured_before store id source es le = same_functions (origins_in (with_capture store id source) es) (origins_in store es) (same_origins store (with_capture store id source) (place_of id) (λ number lt. refl)
+    (same_by_write (place_of id) store.implicit_capture_to_source (place_of id) (Some source) store.implicit_capture_to_source (omega arith) (λ number lt. refl)) es le)
+
+same_front : (x y : Origin) (xs ys : List Origin) → x ∷ xs ≡ y ∷ ys → x ≡ y
+same_front x y xs ys is = ap (λ os. unwrap_or (slice_get os 0) x) is
+
+same_rest : (x y : Origin) (xs ys : List Origin) → x ∷ xs ≡ y ∷ ys → xs ≡ ys
+same_rest x y xs ys is = ap (drop 1) is
+
+-- an origin with this place in a template
+abbrev captured : Origin → InFile CaptureSource → Origin
+captured own source = record { source = own.source; capture = Some source }
+
+captured_in : (store : ExpressionStore) (id : ExprId) (source : InFile CaptureSource) (es : List Expr) (own : Origin) (rest : List Origin) → place_of id + 1 ≡ length es →
+    origins_in store es id ≡ own ∷ rest → origins_in (with_capture store id source) es id ≡ captured own source ∷ rest
+captured_in store id source [] own rest at comes = absurd (omega (arith, at))
+captured_in store id source (e ∷ es) own rest at comes =
+    let new = with_capture store id source in
+    let here : nat_eq (place_of id) (length es) ≡ true = eq-eqb (place_of id) (length es) (omega (arith, at)) in
+    let was : origin_at store (place_of id) ∷ node_origins (origins_in store es) e ≡ own ∷ rest = sym
+    (cond-true (nat_eq (place_of id) (length es)) (origin_at store (place_of id) ∷ node_origins (origins_in store es) e) (origins_in store es id) here) ∙ comes in
+    let parts : node_origins (origins_in new es) e ≡ rest = ap (λ f. node_origins f e) (captured_before store id source es (omega (arith, at)))
+    ∙ same_rest (origin_at store (place_of id)) own (node_origins (origins_in store es) e) rest was in
+    let first : origin_at new (place_of id) ≡ captured own source = ap (λ c. record { source = slot_at store.expr_map_back (place_of id); capture = c }) (captured_at store id source)
+    ∙ ap (λ (o : Origin). captured o source) (same_front (origin_at store (place_of id)) own (node_origins (origins_in store es) e) rest was) in
+    cond-true (nat_eq (place_of id) (length es)) (origin_at new (place_of id) ∷ node_origins (origins_in new es) e) (origins_in new es id) here ∙ ap₂ (λ o os. o ∷ os) first parts
+
+-- the newest expression of a store, once it has its place in a template
+pub captured_placed : (store : ExpressionStore) (id : ExprId) (source : InFile CaptureSource) (t : Tree) (own : Origin) (rest : List Origin) → place_of id + 1 ≡ length store.exprs →
+    Placed store id t (own ∷ rest) → Placed (with_capture store id source) id t (captured own source ∷ rest)
+captured_placed store id source t own rest at was = record {
+  stands = record { within = was.stands.within; tree = was.stands.tree; whole = was.stands.whole };
+  comes = captured_in store id source (reverse store.exprs) own rest (at ∙ sym (length-reverse store.exprs)) was.comes;
+}
+
+-- what built the newest expression built it with its place in a template
+pub builds_captured : (old : Frame) (new : Frame) (id : ExprId) (source : InFile CaptureSource) (most lets : ℕ) → Builds old new most lets → length old.store.exprs ≤ place_of id →
+    Builds old (record new { store = with_capture new.store id source }) most lets
+builds_captured old new id source most lets built le = record {
+  grows = captured_grows new.store id source old.store built.grows le;
+  trees = built.trees;
+  file = built.file;
+  items = built.items;
+  fresh = built.fresh;
+  names = built.names;
+  exprs = built.exprs;
+  pats = built.pats;
+  bindings = built.bindings;
+}
+
+-- the captures of a call
+
+module _ (store : ExpressionStore) (code : ExprId) (usages : List (TextRange × Name)) where
+  -- an older store, in which the code is not yet, grows to it
+  pub noted_grows : (old : ExpressionStore) → Grows old store → length old.exprs ≤ place_of code → Grows old (with_captures store code usages)
+  noted_grows old grows le = record {
+    exprs = grows.exprs;
+    pats = grows.pats;
+    bindings = grows.bindings;
+    older = record {
+      sources = grows.older.sources;
+      capture_sources = grows.older.capture_sources;
+      captures = same_by_write (length old.exprs) store.format_args_to_captures (place_of code) (Some usages) old.format_args_to_captures le grows.older.captures;
+    };
+  }
+
+  noted_origins : (es : List Expr) (id : ExprId) → origins_in (with_captures store code usages) es id ≡ origins_in store es id
+  noted_origins [] id = refl
+  noted_origins (e ∷ es) id = rw (same_functions (origins_in (with_captures store code usages) es) (origins_in store es) (noted_origins es)) refl
+
+  -- what is placed stays so
+  pub noted_placed : (id : ExprId) (t : Tree) (os : List Origin) → Placed store id t os → Placed (with_captures store code usages) id t os
+  noted_placed id t os was = record {
+    stands = record { within = was.stands.within; tree = was.stands.tree; whole = was.stands.whole };
+    comes = noted_origins (reverse store.exprs) id ∙ was.comes;
+  }
+
+-- a builder that noted the captures of code that it built did build it
+pub builds_noted : {a b c : Frame} {most lets : ℕ} (code : ExprId) (usages : List (TextRange × Name)) → Builds a b most lets → length a.store.exprs ≤ place_of code → Notes b code usages c →
+    Builds a c most lets
+builds_noted {a} {b} {c} {most} {lets} code usages first le notes = subst (λ f. Builds a f most lets) (sym notes) (record {
+  grows = noted_grows b.store code usages a.store first.grows le;
+  trees = first.trees;
+  file = first.file;
+  items = first.items;
+  fresh = first.fresh;
+  names = first.names;
+  exprs = first.exprs;
+  pats = first.pats;
+  bindings = first.bindings;
+})
