@@ -28,12 +28,12 @@ use Rattle.format_code.proofs.Together.{format_runs}
 
 -- One text and one list of pieces
 
-same_text : (around : Surroundings) (call : FormatCall) (text other : List ℕ) (pieces more : List Piece) → HasPieces around call text pieces → HasPieces around call other more → text ≡ other
+pub same_text : (around : Surroundings) (call : FormatCall) (text other : List ℕ) (pieces more : List Piece) → HasPieces around call text pieces → HasPieces around call other more → text ≡ other
 same_text around call text other pieces more has have =
     let token = same_Some _ _ (sym has.reached ∙ have.reached) in
     one_value have.token text other (subst (λ (t : List ℕ). HasValue t text) token has.format.value) have.format.value
 
-same_pieces : (around : Surroundings) (call : FormatCall) (text other : List ℕ) (pieces more : List Piece) → HasPieces around call text pieces → HasPieces around call other more → pieces ≡ more
+pub same_pieces : (around : Surroundings) (call : FormatCall) (text other : List ℕ) (pieces more : List Piece) → HasPieces around call text pieces → HasPieces around call other more → pieces ≡ more
 same_pieces around call text other pieces more has have =
     has_one_reading.one other pieces more (subst (λ (t : List ℕ). ArePieces t pieces) (same_text around call text other pieces more has have) has.format.are) have.format.are
 
