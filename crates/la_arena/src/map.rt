@@ -1,4 +1,4 @@
-ghost use Rattle.std.specs.Prelude.{◌≡◌, ◌<◌, ◌≤◌, ◌^◌, ◌↔◌, ◌+◌, List, [], Option, Some, None, length, option_copied, slice_set, IsTrue, IsSome, IsNone, IfOk, IfErr, OnOk, OnErr};
+ghost use Rattle.std.specs.Prelude.{◌≡◌, ◌<◌, ◌≤◌, ◌^◌, ◌↔◌, ◌+◌, List, [], Option, Some, None, length, option_copied, slice_set, IsTrue, IsSome, IsNone, IfOk, IfErr, OnOk, OnErr, IsOk};
 ghost use Rattle.std.specs.Borrow.{sem};
 ghost use Rattle.std.specs.Cmp.Lexicographic.{pointwise, slice_cmp, slice_partial_cmp, lists_per, lists_equiv, lists_po, lists_agrees, lists_total, lists_ties, options_equiv, options_total};
 ghost use Rattle.std.specs.Hash as fed;
@@ -119,7 +119,7 @@ impl<T, V> ArenaMap<Idx<T>, V> {
 
     /// Gives back the memory that is not needed, and the empty slots behind the last value.
     ///
-    /// The map has the same values on either answer.
+    /// The map keeps its values, and the answer is `Ok`.
     ///
     /// ```
     /// let mut map = ArenaMap::from_iter(rt.alloc(), [(at(1), 'x'), (at(2), 'y')])?;
@@ -130,7 +130,8 @@ impl<T, V> ArenaMap<Idx<T>, V> {
     pub fn shrink_to_fit(&mut self) -> Result<(), AllocError>
     where
         V: Drop,
-        ensures { IsTrimmed self.old self.new }
+        ensures trimmed { IsTrimmed self.old self.new }
+        ensures ok { IsOk result }
     {
         while let Some(None) = self.slots.last() {
             self.slots.pop();

@@ -1,4 +1,4 @@
-ghost use Rattle.std.specs.Prelude.{◌≡◌, ◌↔◌, List, Ok, Err, IfOk, OnOk, OnErr, IsTrue, true, false, if◌then◌else◌};
+ghost use Rattle.std.specs.Prelude.{◌≡◌, ◌↔◌, List, Ok, Err, IfOk, OnOk, OnErr, IsTrue, true, false, if◌then◌else◌, IsOk};
 ghost use Rattle.std.specs.Iterator.{Drains, ExtendsWithItems, IsFinite};
 ghost use Rattle.std.specs.FinSet as set;
 ghost use Rattle.std.specs.FinMap as finite;
@@ -337,10 +337,11 @@ impl CfgOptions {
 
     /// Keeps the options as they are.
     ///
-    /// Atoms and answers are kept in trees, which offer no way to give spare memory back: today this does nothing, and it
-    /// returns no error.
+    /// Atoms and answers are kept in trees, which offer no way to give spare memory back: this does nothing, and the
+    /// answer is `Ok`.
     pub fn shrink_to_fit(&mut self) -> Result<(), AllocError>
-        ensures { self.new ≡ self.old }
+        ensures kept { self.new ≡ self.old }
+        ensures ok { IsOk result }
     {
         Ok(())
     }
