@@ -1,16 +1,19 @@
--- The printed form of outcomes: a line for each call, in order, with its number and what became of it.
+-- The printed form of outcomes: a line for each call, in order, with its number and what became of it; behind its code, a line for each usage of a name in its literal.
 use Rattle.std.specs.Prelude.{ℕ, ◌+◌, ◌/◌, ◌%◌, Bool, true, false, List, [], ◌∷◌, ◌++◌, codes, Option, Some, None}
 use Rattle.std.specs.Fmt.{decimal, digit_glyph}
 use Rattle.std.specs.List.{flat_map}
+use Rattle.la_arena.specs.Map.{slot_at}
 use Rattle.sym_core.specs.declared.name.Name.{Name}
+use Rattle.sym_core.specs.declared.text_range.TextRange.{TextRange}
 use Rattle.sym_core.specs.Name.{name_text}
 use Rattle.hir_store.specs.declared.lang_item.LangItem.{LangItem}
 use Rattle.hir_store.specs.declared.lang_item.LangItem.TheVariants.{FormatArguments, FormatArgument}
 use Rattle.hir_store.specs.declared.lang_item.LangFn.{LangFn}
 use Rattle.hir_store.specs.declared.lang_item.LangFn.TheVariants.{New, FromStr, NewDisplay, NewDebug, NewLowerExp, NewUpperExp, NewOctal, NewPointer, NewBinary, NewLowerHex, NewUpperHex, FromUsize}
+use Rattle.hir_store.specs.declared.ids.ExprId.{ExprId}
 use Rattle.hir_store.specs.declared.store.ExpressionStore.{ExpressionStore}
 use Rattle.hir_store.specs.Tree.{Tree, Trees, Steps, Bad, Missing, Leaf, Path, LangPath, Text, Bytes, Ref, Tuple, Field, Array, Call, Block, Empty, More, End, Tail, Let, Nameless, Do}
-use Rattle.hir_store.specs.Unfolding.{tree_at}
+use Rattle.hir_store.specs.Unfolding.{place_of, tree_at}
 use Rattle.hir_lower.specs.declared.outcome.Outcome.{Outcome}
 use Rattle.hir_lower.specs.declared.outcome.Outcome.TheVariants.{Off, Code}
 
@@ -97,15 +100,32 @@ abbrev mutual
   steps_text (Nameless t steps) = let_text [] (text_of t) ++ steps_text steps
   steps_text (Do t steps) = text_of t ++ codes "; " ++ steps_text steps
 
--- the line of the call with this number: the number, and `off`, or `code` and the text of its code; LF
-abbrev pub outcome_line : ExpressionStore → ℕ → Outcome → List ℕ
-outcome_line store number Off = decimal number ++ codes " off\n"
-outcome_line store number (Code id) = decimal number ++ codes " code " ++ text_of (tree_at store id) ++ codes "\n"
+-- the line of a usage in the literal of the call with this number: the name and its span; LF
+abbrev pub use_line : ℕ → TextRange × Name → List ℕ
+use_line number (range, name) = decimal number ++ codes " use " ++ name_text name ++ codes " " ++ decimal range.start ++ codes ".." ++ decimal range.end ++ codes "\n"
+
+-- a line for each usage in a row
+abbrev pub use_lines_of : ℕ → List (TextRange × Name) → List ℕ
+use_lines_of number usages = flat_map (use_line number) usages
+
+-- a line for each usage, where there are any
+abbrev pub use_lines : ℕ → Option (List (TextRange × Name)) → List ℕ
+use_lines number (Some usages) = use_lines_of number usages
+use_lines number None = []
+
+-- the line of the code of the call with this number, and a line for each usage that the store has at the code
+abbrev pub code_lines : ExpressionStore → ℕ → ExprId → List ℕ
+code_lines store number id = decimal number ++ codes " code " ++ text_of (tree_at store id) ++ codes "\n" ++ use_lines number (slot_at store.format_args_to_captures (place_of id))
+
+-- the lines of the call with this number: the number and `off`, or those of its code
+abbrev pub outcome_lines : ExpressionStore → ℕ → Outcome → List ℕ
+outcome_lines store number Off = decimal number ++ codes " off\n"
+outcome_lines store number (Code id) = code_lines store number id
 
 -- the lines of calls whose numbers rise by one from the first
 abbrev pub lines_from : ExpressionStore → ℕ → List Outcome → List ℕ
 lines_from store first [] = []
-lines_from store first (outcome ∷ outcomes) = outcome_line store first outcome ++ lines_from store (first + 1) outcomes
+lines_from store first (outcome ∷ outcomes) = outcome_lines store first outcome ++ lines_from store (first + 1) outcomes
 
 -- the lines of all calls, numbered from 0
 abbrev pub printed : ExpressionStore → List Outcome → List ℕ

@@ -1,4 +1,5 @@
-//! The printed form of outcomes: a line for each call, with the text of the code that it is lowered to.
+//! The printed form of outcomes: a line for each call, with the text of the code that it is lowered to, and a line for each
+//! usage of a name in its literal.
 //! What is printed is said of the trees that the places of a store stand for.
 #![tactic(auto)]
 

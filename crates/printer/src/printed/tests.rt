@@ -10,7 +10,7 @@ use la_arena::ArenaError;
 use sqlite_items::Items;
 use std::process::Abort;
 use std::test::Fail;
-use sym_core::{Name, Symbol};
+use sym_core::{Name, Symbol, TextRange};
 
 fn stands(store: &ExpressionStore, id: ExprId) -> bool
     ensures within { IsTrue result → place_of id < length store.now.exprs }
@@ -106,6 +106,23 @@ fn lang(
     ensures { NoDanglingIds store.new }
 {
     place(rt, store, Expr::LangPath(item, function))
+}
+
+// Notes the usages of a call at its code.
+#[tactic(auto, using(crate::proofs::Noted::no_dangling_noted))]
+fn note_usages(
+    store: &mut ExpressionStore,
+    code: ExprId,
+    usages: Items<(TextRange, Name)>,
+) -> Result<(), AllocError>
+    requires no_dangling { NoDanglingIds store.old }
+    requires within { place_of code < length store.old.exprs }
+    ensures { OnOk result (NoDanglingIds store.new) }
+{
+    match store.format_args_to_captures.insert(code.idx(), usages) {
+        Ok(_) => Ok(()),
+        Err(_) => Err(AllocError),
+    }
 }
 
 #[test]
@@ -270,5 +287,26 @@ fn prints_a_block(rt: HostRuntime) -> Result<(), Fail> {
     let line =
         b"0 code { let #0 = (&@1,); let #0 = [Argument::new_display(#0.0)]; unsafe { Arguments::new(b\"0178C002797B00\", &#0) } }\n";
     assert_eq!(rt; printed.as_slice(), line.as_slice());
+    Ok(())
+}
+
+#[test]
+fn prints_usages(rt: HostRuntime) -> Result<(), Fail> {
+    let alloc = rt.alloc();
+    let mut store = ExpressionStore::new(alloc);
+    let callee = place(&rt, &mut store, Expr::Missing)?;
+    let text = Symbol::new(alloc, "hi")?;
+    let text = place(&rt, &mut store, Expr::Literal(Literal::String(text)))?;
+    let args = Items::from_slice(alloc, &[text])?;
+    let call = place(&rt, &mut store, Expr::Call { callee, args })?;
+    let mut usages = Items::new(alloc);
+    usages.push((TextRange { start: 2, end: 3 }, Name::new(alloc, "x")?))?;
+    usages.push((TextRange { start: 8, end: 10 }, Name::new(alloc, "py")?))?;
+    assert!(rt; stands(&store, call));
+    note_usages(&mut store, call, usages)?;
+    assert!(rt; stands(&store, call));
+    let printed = print_outcomes(alloc, &store, &[Outcome::Code(call), Outcome::Off])?;
+    let lines = b"0 code missing(s\"6869\")\n0 use x 2..3\n0 use py 8..10\n1 off\n";
+    assert_eq!(rt; printed.as_slice(), lines.as_slice());
     Ok(())
 }
