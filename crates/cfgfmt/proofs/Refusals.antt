@@ -15,9 +15,13 @@ use Rattle.cfgfmt.specs.declared.refusal.Refusal.{Refusal}
 use Rattle.cfgfmt.specs.declared.refusal.Refusal.TheVariants.{Usage, Syntax, Read, Memory, ArenaFull, TooLong}
 use Rattle.ra_cfg.specs.Options.{OptionSet}
 use Rattle.gated_calls.specs.declared.call.GatedCall.{GatedCall}
-use Rattle.hir_lower.specs.Lowered.{most_exprs}
-use Rattle.cfgfmt.specs.Session.{IsNew}
-use Rattle.cfgfmt.specs.Refusal.{HasRead, IsFaulty, OutgrowsArena, is_reading_form, status_of, line_of, IsJustified, IsReadRefusal, IsScriptRefusal, IsLowerRefusal, refusal_of}
+use Rattle.hir_store.specs.declared.store.ExpressionStore.{ExpressionStore}
+use Rattle.hir_store.specs.Store.{IsEmptyStore}
+use Rattle.hir_build.specs.Building.{Outgrows}
+use Rattle.hir_lower.specs.Lowered.{AreMost, most_lets}
+use Rattle.hir_lower.proofs.Outcomes.{lets_fewer}
+use Rattle.cfgfmt.specs.Session.{IsNew, script_around}
+use Rattle.cfgfmt.specs.Refusal.{HasRead, IsFaulty, OutgrowsArena, AreMany, is_reading_form, status_of, line_of, IsJustified, IsReadRefusal, IsScriptRefusal, IsLowerRefusal, refusal_of}
 use Rattle.cfgfmt.specs.Run.{IsSent, IsTold, Refuses, TellsWhole, TellsFront, is_status}
 
 -- bytes that are no script are refused because of the bytes
@@ -29,6 +33,15 @@ not_script bytes ended fault refusal fits is becomes breaks =
     by_fault : (fault : ScriptError) → BreakIs (Err fault) (with_end bytes) → IsScriptRefusal bytes (refusal_of fault)
     by_fault (error.Syntax line) breaks = record { fits = fits; is_line = breaks }
     by_fault (error.Memory refused) breaks = tt
+
+-- calls that don't fit into a store that is empty may place more expressions than an arena holds
+pub many_outgrow : (options : OptionSet) (calls : List GatedCall) (store : ExpressionStore) → IsEmptyStore store → ((most : ℕ) → AreMost options script_around calls most → Outgrows store most (most_lets options calls)) → AreMany options calls
+many_outgrow options calls store empty full most are = by_arena (full most are)
+  where
+    by_arena : Outgrows store most (most_lets options calls) → 4294967295 < most
+    by_arena (inl exprs) = omega (arith, exprs, ap length empty.exprs)
+    by_arena (inr (inl pats)) = let fewer = lets_fewer options script_around calls most are in omega (arith, pats, ap length empty.pats, fewer)
+    by_arena (inr (inr bindings)) = let fewer = lets_fewer options script_around calls most are in omega (arith, bindings, ap length empty.bindings, fewer)
 
 module _ (words : List (List ℕ)) (old new : SourceState) (right : is_reading_form words ≡ true) where
   -- a refusal to read the source is justified
@@ -51,7 +64,7 @@ module _ (words : List (List ℕ)) (old new : SourceState) (right : is_reading_f
 
   -- and one to lower the calls of its script
   pub lower_justified : (bytes : List ℕ) → ReadsAll old new bytes → length bytes ≤ max_script_len → (options : OptionSet) (calls : List GatedCall) → IsScript bytes options calls
-      → (refusal : Refusal) → IsLowerRefusal (4294967295 < most_exprs options calls) refusal → IsJustified words old new refusal
+      → (refusal : Refusal) → IsLowerRefusal (AreMany options calls) refusal → IsJustified words old new refusal
   lower_justified bytes read fits options calls script Memory found = record { words_are = right; found = read.calm }
   lower_justified bytes read fits options calls script ArenaFull many =
       record { words_are = right; found = record { bytes = bytes; read = read; holds = record { fits = fits; options = options; calls = calls; script = script; many = many } } }

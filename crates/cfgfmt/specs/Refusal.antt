@@ -4,7 +4,7 @@ use Rattle.std.specs.Str.{bytes_eq}
 use Rattle.std.specs.Fmt.{decimal}
 use Rattle.gated_calls.specs.declared.call.GatedCall.{GatedCall}
 use Rattle.ra_cfg.specs.Options.{OptionSet}
-use Rattle.hir_lower.specs.Lowered.{most_exprs}
+use Rattle.hir_lower.specs.Lowered.{AreMost}
 use Rattle.causes.specs.Causes.{Rose}
 use Rattle.streams.specs.Streams.{SourceState}
 use Rattle.streams.specs.ReadWrite.{ReadsAll, TakesCount}
@@ -12,6 +12,7 @@ use Rattle.script.specs.Limit.{max_script_len}
 use Rattle.script.specs.declared.script.ScriptError.{ScriptError}
 use Rattle.script.specs.declared.script.ScriptError.TheVariants as error
 use Rattle.script.specs.Script.{IsScript, IsFaultLine}
+use Rattle.cfgfmt.specs.Session.{script_around}
 use Rattle.cfgfmt.specs.declared.refusal.Refusal.{Refusal}
 use Rattle.cfgfmt.specs.declared.refusal.Refusal.TheVariants.{Usage, Syntax, Read, Memory, ArenaFull, TooLong}
 
@@ -43,13 +44,17 @@ pub record IsFaulty (bytes : List ℕ) (line : ℕ) : Type 0 where
   pub fits : length bytes ≤ max_script_len
   pub is_line : IsFaultLine bytes line
 
--- the bytes are a script whose calls may place more expressions than an arena holds
+-- calls may place more expressions than an arena holds
+abbrev pub AreMany : OptionSet → List GatedCall → Type 0
+AreMany options calls = (most : ℕ) → AreMost options script_around calls most → 4294967295 < most
+
+-- the bytes are a script whose calls may do so
 pub record OutgrowsArena (bytes : List ℕ) : Type 0 where
   pub fits : length bytes ≤ max_script_len
   pub options : OptionSet
   pub calls : List GatedCall
   pub script : IsScript bytes options calls
-  pub many : 4294967295 < most_exprs options calls
+  pub many : AreMany options calls
 
 -- the source was read to its end without a fault, and this holds of its bytes
 pub record HasRead (old new : SourceState) (Holds : List ℕ → Type 0) : Type 0 where

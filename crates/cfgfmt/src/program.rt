@@ -2,17 +2,18 @@ ghost use Rattle.std.specs.Prelude.{◌≡◌, ◌≢◌, ◌≤◌, ◌<◌, �
 ghost use Rattle.causes.specs.Causes.{Rose};
 ghost use Rattle.streams.specs.Streams.{StaysKnown};
 ghost use Rattle.streams.specs.ReadWrite.{ReadsAll, TakesCount, TakesAtMost};
-ghost use Rattle.hir_lower.specs.Lowered.{AreOutcomes, AreRising, AreInStore, most_exprs};
+ghost use Rattle.hir_lower.specs.Lowered.{AreOutcomes, AreRising, AreInStore};
 ghost use Rattle.hir_store.specs.Store.{NoDanglingIds};
 ghost use Rattle.script.specs.Script.{IsScript};
 ghost use Rattle.cfgfmt.specs.declared.refusal.Refusal.{Refusal};
-ghost use Rattle.cfgfmt.specs.Session.{IsNew, LowersAll, output_of};
-ghost use Rattle.cfgfmt.specs.Refusal.{is_reading_form, HasRead, IsFaulty, OutgrowsArena, IsJustified, IsReadRefusal, IsScriptRefusal, IsLowerRefusal, refusal_of};
+ghost use Rattle.cfgfmt.specs.Session.{IsNew, LowersAll, output_of, script_around};
+ghost use Rattle.cfgfmt.specs.Refusal.{is_reading_form, HasRead, IsFaulty, OutgrowsArena, AreMany, IsJustified, IsReadRefusal, IsScriptRefusal, IsLowerRefusal, refusal_of};
 ghost use Rattle.cfgfmt.specs.Run.{Prints, Makes, Refuses, TellsWhole, WritesPart, IsSent, IsTold, is_status};
 
 use crate::refusal::Refusal;
-use crate::session::Session;
-use hir_lower::{ExprCollector, LowerError};
+use crate::session::{Session, script_collector};
+use hir_expander::MacroTable;
+use hir_lower::LowerError;
 use printer::print_outcomes;
 use script::{MAX_SCRIPT_LEN, Script, ScriptError, end_last_line, read_ended};
 use std::alloc::{AllocError, Global};
@@ -75,18 +76,19 @@ fn refusal_of(error: ScriptError) -> Refusal
 // Lowers the calls of a script into the session, and prints what becomes of them. A refusal leaves the session as it was.
 fn lower(alloc: Global, script: Script, session: &mut Session) -> Result<Vec<u8>, Refusal>
     ensures options { OnOk result (session.new.options ≡ script.options) }
-    ensures outcomes { OnOk result (AreOutcomes script.options session.new.collector.store script.calls.items session.new.outcomes.items) }
+    ensures outcomes { OnOk result (AreOutcomes script.options script_around session.new.collector.store script.calls.items session.new.outcomes.items) }
     ensures within { OnOk result (AreInStore session.new.collector.store session.new.outcomes.items) }
     ensures rising { OnOk result (AreRising 0 session.new.outcomes.items) }
     ensures no_dangling { OnOk result (NoDanglingIds session.new.collector.store) }
-    ensures lowered { OnOk result (LowersAll script.options script.calls.items session.new.outcomes.items session.new.collector.store) }
+    ensures lowered { OnOk result (LowersAll script.options script.calls.items session.new.outcomes.items session.new.collector) }
     ensures printed { IfOk result (λ output. output.items ≡ output_of session.new) }
     ensures kept { OnErr result (session.new ≡ session.old) }
-    ensures refused { IfErr result (IsLowerRefusal (4_294_967_295 < most_exprs script.options script.calls.items)) }
+    ensures refused { IfErr result (IsLowerRefusal (AreMany script.options script.calls.items)) }
 {
     let Script { options, calls } = script;
-    let mut collector = ExprCollector::new(alloc);
-    let outcomes = match collector.collect_gated(alloc, &calls, &options) {
+    let macros = MacroTable::new(alloc);
+    let mut collector = script_collector(alloc, &macros);
+    let outcomes = match collector.collect_gated(alloc, &calls, &options, &macros) {
         Ok(outcomes) => outcomes,
         Err(LowerError::Memory(_)) => return Err(Refusal::Memory),
         Err(LowerError::ArenaFull) => return Err(Refusal::ArenaFull),

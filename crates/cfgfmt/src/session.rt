@@ -1,8 +1,13 @@
-ghost use Rattle.std.specs.Prelude.{IfOk};
+ghost use Rattle.std.specs.Prelude.{◌≡◌, IfOk};
+ghost use Rattle.hir_store.specs.Store.{IsEmptyStore};
+ghost use Rattle.cfgfmt.specs.Session.{script_file, script_limit, script_items};
 
+use hir_expander::MacroTable;
 use hir_lower::{ExprCollector, Outcome};
+use hir_store::LangItems;
 use ra_cfg::CfgOptions;
 use std::alloc::{AllocError, Global};
+use sym_core::FileId;
 
 /// What a run leaves: the options of the script, the store with the code of its calls, and what became of each call.
 ///
@@ -29,9 +34,23 @@ impl Session {
         ensures { IfOk result IsNew }
     {
         Ok(Session {
-            collector: ExprCollector::new(alloc),
+            collector: script_collector(alloc, &MacroTable::new(alloc)),
             options: CfgOptions::new(alloc)?,
             outcomes: Vec::new(alloc),
         })
     }
+}
+
+// A collector for the calls of a script: they stand in one file, and both language items are there.
+pub(crate) fn script_collector(alloc: Global, macros: &MacroTable) -> ExprCollector
+    ensures empty { IsEmptyStore result.store }
+    ensures file { result.file ≡ script_file }
+    ensures limit { result.limit ≡ script_limit }
+    ensures items { result.items ≡ script_items }
+{
+    let items = LangItems {
+        format_arguments: true,
+        format_argument: true,
+    };
+    ExprCollector::new(alloc, macros, FileId { raw: 0 }, 128, items)
 }

@@ -5,7 +5,7 @@ use Rattle.sym_core.specs.declared.name.Name.TheVariants as name
 use Rattle.hir_store.specs.declared.lang_item.LangItem.TheVariants.{FormatArguments, FormatArgument}
 use Rattle.hir_store.specs.declared.lang_item.LangFn.TheVariants.{New, FromStr, NewDisplay, FromUsize}
 use Rattle.hir_store.specs.Tree.{Tree, Missing, Leaf, Path, LangPath, Text, Bytes, Ref, Tuple, Field, Array, Call, Block, Empty, More, Tail, Let, Do}
-use Rattle.code_meaning.specs.Write.{Display, Right, FormattingOptions, NoCount, Is, Of, Byte, Put, Literal, Placeholder, writes_of}
+use Rattle.code_meaning.specs.Write.{Display, Right, FormattingOptions, NoCount, Is, Of, Byte, Put}
 use Rattle.code_meaning.specs.Value.{LeafEvent, NameEvent, At, FromText, Arguments, Made, By, AsCount}
 use Rattle.code_meaning.specs.Value as value
 use Rattle.code_meaning.specs.Evaluation.{evaluation_of}
@@ -133,12 +133,6 @@ put_of_a_count = refl
 put_of_nothing : meaning (Arguments (200 ∷ 2 ∷ 0 ∷ 0 ∷ []) arguments) ≡ None
 unfolding arguments
 put_of_nothing = refl
-
--- the writes of the pieces of `é{:0$}`
-writes_are : writes_of At (Literal 233 ∷ Placeholder 1 (record { by = Display; options = plain; width = Of 0; precision = NoCount }) ∷ [])
-    ≡ Byte 195 ∷ Byte 169 ∷ Put (At 1) (record { by = Display; options = plain; width = Of (At 0); precision = NoCount }) ∷ []
-unfolding plain encode
-writes_are = refl
 
 -- a text means its bytes, and a missing callee is stuck
 text_runs : evaluation_of (Call (LangPath FormatArguments FromStr) (More (Text (104 ∷ 105 ∷ [])) Empty)) ≡ Some ([], FromText (104 ∷ 105 ∷ []))

@@ -1,5 +1,5 @@
 -- A write is one byte, or an argument's value put out by a trait under options.
-use Rattle.std.specs.Prelude.{ℕ, Bool, List, [], ◌∷◌, ◌++◌, Option, map, encode_utf8}
+use Rattle.std.specs.Prelude.{ℕ, Bool, Option}
 
 -- the traits of std::fmt, section "Formatting traits"
 pub data Trait : Type 0 where
@@ -55,11 +55,6 @@ pub data Write (V : Type 0) : Type 0 where
   Byte : ℕ → Write V
   Put : V → Asked V → Write V
 
--- a piece of a text: a character, or a placeholder with the place of its argument, whose counts may be arguments too
-pub data Piece : Type 0 where
-  Literal : ℕ → Piece
-  Placeholder : ℕ → Asked ℕ → Piece
-
 module _ {A B : Type 0} where
   -- a count with what it refers to in place of the reference
   abbrev pub count_of : (A → B) → Count A → Count B
@@ -74,14 +69,3 @@ module _ {A B : Type 0} where
     width = count_of value asked.width;
     precision = count_of value asked.precision;
   }
-
-module _ {V : Type 0} where
-  -- a literal is the bytes of its character, and a placeholder one put, given the value of each argument by its place
-  abbrev pub writes_of_piece : (ℕ → V) → Piece → List (Write V)
-  writes_of_piece value (Literal c) = map Byte (encode_utf8 c)
-  writes_of_piece value (Placeholder place asked) = Put (value place) (asked_of value asked) ∷ []
-
-  -- the writes of a list of pieces, piece by piece
-  abbrev pub writes_of : (ℕ → V) → List Piece → List (Write V)
-  writes_of value [] = []
-  writes_of value (piece ∷ pieces) = writes_of_piece value piece ++ writes_of value pieces

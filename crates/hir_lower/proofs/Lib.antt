@@ -1,15 +1,13 @@
-pub mod Reached
-pub mod Codes
+pub mod Nodes
+pub mod Statements
+pub mod Elements
+pub mod Pieces
+pub mod Entries
+pub mod Placed
+pub mod Counts
+pub mod WrittenLaws
+pub mod CallLaws
+pub mod CodeLaws
+pub mod CallLowered
 pub mod Outcomes
-pub mod RunsOnce
-pub mod ReadsBack
-pub mod Spells
-pub mod Chunks
-pub mod Parts
-pub mod PlainPairs
-pub mod Forms
-pub mod Drafts
-mod FormatExamples
-pub mod Building
-mod PiecesExamples
-pub mod Lets
+pub mod Gated

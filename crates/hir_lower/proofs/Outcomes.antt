@@ -1,136 +1,165 @@
--- Outcomes stay what they are as the store grows, and one more call has one more outcome.
-use Rattle.std.specs.Prelude.{◌≡◌, ℕ, ◌+◌, ◌<◌, ◌≤◌, Bool, true, false, cond, zero, suc, List, [], ◌∷◌, ◌++◌, length, take, refl}
-use Rattle.std.proofs.Common.{sym, ◌∙◌, ap, subst, arith, add_assoc, get_or, length-append, inl, inr}
-use Rattle.std.proofs.lemmas.List.{take_more}
+-- Code stays what it is as the store grows; and what calls became, one after the other, is said of the store at the end.
+use Rattle.std.specs.Prelude.{◌≡◌, ℕ, ◌+◌, ◌<◌, ◌≤◌, false, suc, List, [], ◌∷◌, ◌++◌, length, IfOk, Result, Ok, Err, refl}
+use Rattle.std.proofs.Common.{sym, ◌∙◌, subst, arith, inl, inr}
+use Rattle.syn_trees.specs.declared.format_call.FormatCall.{FormatCall}
 use Rattle.hir_store.specs.declared.ids.ExprId.{ExprId}
 use Rattle.hir_store.specs.declared.store.ExpressionStore.{ExpressionStore}
-use Rattle.hir_store.specs.Unfolding.{place_of}
-use Rattle.hir_store.specs.Store.{Grows, NoDanglingIds}
-use Rattle.hir_store.proofs.Grown.{stays, within_later}
+use Rattle.hir_store.specs.Unfolding.{place_of, tree_at}
 use Rattle.ra_cfg.specs.Options.{OptionSet}
 use Rattle.ra_cfg.specs.Reading.{is_off}
-use Rattle.hir_lower.specs.Building.{Outgrows}
-use Rattle.code_meaning.specs.Value.{Event}
-use Rattle.code_meaning.specs.Evaluation.{evaluation_of}
-use Rattle.code_meaning.specs.Meaning.{Writes}
 use Rattle.gated_calls.specs.declared.call.GatedCall.{GatedCall}
 use Rattle.gated_calls.specs.declared.call.Call.{Call}
 use Rattle.gated_calls.specs.declared.call.Call.TheVariants.{Format}
+use Rattle.format_code.specs.FormatCall.{Surroundings}
+use Rattle.format_code.specs.CallCode.{IsCallTree}
+use Rattle.format_code.proofs.CallRuns.{complete_runs, well_formed_runs, empty_runs}
+use Rattle.hir_build.specs.Frame.{Frame}
+use Rattle.hir_build.specs.declared.error.LowerError.{LowerError}
+use Rattle.hir_build.specs.Building.{Builds}
+use Rattle.hir_build.proofs.Origins.{origins_later}
+use Rattle.hir_build.proofs.Builds.{builds_none, builds_then, builds_within}
 use Rattle.hir_lower.specs.declared.outcome.Outcome.{Outcome}
 use Rattle.hir_lower.specs.declared.outcome.Outcome.TheVariants.{Off, Code}
-use Rattle.hir_lower.specs.Lowered.{Runs, IsCode, IsOutcome, AreOutcomes, AreRising, IsFrom, IsInStore, AreInStore, most_of_call, most_of, most_exprs, lets_of, most_lets, LowersCall, Lowers}
+use Rattle.hir_lower.specs.CallCode.{IsCallCode, HasSources}
+use Rattle.hir_lower.specs.CallParsed.{GrowsSome}
+use Rattle.hir_lower.specs.Lowered.{IsFormatCode, IsCode, AreOutcomes, AreRising, AreInStore, IsMost, IsMostOf, IsMostGated, AreMost, lets_of, most_lets, PlacesCall, LowersCall, Lowers}
+use Rattle.hir_lower.proofs.WrittenLaws.{longer}
 
-module _ (old new : ExpressionStore) (placed : NoDanglingIds old) (grows : Grows old new) where
-  runs_later : (id : ExprId) (events : List Event) (writes : Writes) → Runs old id events writes → Runs new id events writes
-  runs_later id events writes runs = record {
-    within = within_later old new id grows runs.within;
-    value = runs.value;
-    evaluation = ap evaluation_of (stays old new grows id (placed.whole id runs.within)) ∙ runs.evaluation;
-    means = runs.means;
-  }
+-- The code of one call
 
-  code_later : (call : Call) (id : ExprId) → IsCode old call id → IsCode new call id
-  code_later (Format call) id code = record {
-    writes = λ pieces formed. runs_later id _ _ (code.writes pieces formed);
-    empty = λ none there. runs_later id _ _ (code.empty none there);
-  }
+-- what the code of a call gives
+pub format_code_of : (around : Surroundings) (call : FormatCall) (n : ℕ) (store : ExpressionStore) (id : ExprId) → IsCallCode around call n store id → IsFormatCode around store call id
+format_code_of around call n store id is = record {
+  fresh = n;
+  is = is;
+  writes = λ text pieces writes formed. well_formed_runs around call n (tree_at store id) text pieces writes is.tree formed;
+  complete = λ text pieces writes complete. complete_runs around call n (tree_at store id) text pieces writes is.tree complete;
+  empty = λ none there item. empty_runs around call n (tree_at store id) is.tree none there item;
+}
 
-  outcome_later : (options : OptionSet) (call : GatedCall) (outcome : Outcome) → IsOutcome options old call outcome → IsOutcome options new call outcome
-  outcome_later options call Off off = off
-  outcome_later options call (Code id) code = (code.0, code_later call.call id code.1)
+module _ {old new : Frame} {most lets : ℕ} (builds : Builds old new most lets) (around : Surroundings) where
+  sources_later : (call : FormatCall) (id : ExprId) → place_of id < length old.store.exprs → HasSources around call old.store id → HasSources around call new.store id
+  sources_later call id within (inl is) = inl (
+    is.0,
+    is.1,
+    record {
+      token = is.2.token;
+      reached = is.2.reached;
+      is = is.2.is;
+      origins = origins_later old.store new.store id builds.grows within ∙ is.2.origins;
+      captures = builds.grows.older.captures (place_of id) within ∙ is.2.captures;
+    },
+  )
+  sources_later call id within (inr is) = inr (record {
+    none = is.none;
+    origins = origins_later old.store new.store id builds.grows within ∙ is.origins;
+    captures = builds.grows.older.captures (place_of id) within ∙ is.captures;
+  })
 
-  pub outcomes_later : (options : OptionSet) (calls : List GatedCall) (outcomes : List Outcome) → AreOutcomes options old calls outcomes → AreOutcomes options new calls outcomes
-  outcomes_later options [] [] are = tt
-  outcomes_later options [] (outcome ∷ outcomes) are = are
-  outcomes_later options (call ∷ calls) [] are = are
-  outcomes_later options (call ∷ calls) (outcome ∷ outcomes) are = (outcome_later options call outcome are.0, outcomes_later options calls outcomes are.1)
+  code_later : (call : Call) (id : ExprId) → IsCode around old.store call id → IsCode around new.store call id
+  code_later (Format call) id code = format_code_of around call code.fresh new.store id (record {
+    within = let more = longer builds in omega (arith, code.is.within);
+    tree = subst (IsCallTree around call code.fresh) (sym (builds.trees id code.is.within)) code.is.tree;
+    sources = sources_later call id code.is.within code.is.sources;
+  })
 
-  in_store_later_one : (outcome : Outcome) → IsInStore old outcome → IsInStore new outcome
-  in_store_later_one Off is = tt
-  in_store_later_one (Code id) is = within_later old new id grows is
+-- What calls became
 
-  pub in_store_later : (outcomes : List Outcome) → AreInStore old outcomes → AreInStore new outcomes
-  in_store_later [] are = tt
-  in_store_later (outcome ∷ outcomes) are = (in_store_later_one outcome are.0, in_store_later outcomes are.1)
+-- a call that is not off binds two names
+on_lets : (options : OptionSet) (call : GatedCall) → is_off options call.cfgs ≡ false → lets_of options call ≡ 2
+on_lets options call on = rw on refl
 
-pub outcomes_on : (options : OptionSet) (store : ExpressionStore) (calls : List GatedCall) (outcomes : List Outcome) (call : GatedCall) (outcome : Outcome) → AreOutcomes options store calls outcomes → IsOutcome options store call outcome → AreOutcomes options store (calls ++ call ∷ []) (outcomes ++ outcome ∷ [])
-outcomes_on options store [] [] call outcome are is = (is, tt)
-outcomes_on options store [] (other ∷ outcomes) call outcome are is = absurd are
-outcomes_on options store (other ∷ calls) [] call outcome are is = absurd are
-outcomes_on options store (other ∷ calls) (next ∷ outcomes) call outcome are is = (are.0, outcomes_on options store calls outcomes call outcome are.1 is)
+-- calls that were lowered make the store grow
+pub lowers_grow : (options : OptionSet) (around : Surroundings) (calls : List GatedCall) (outcomes : List Outcome) (old new : Frame) → Lowers options around calls outcomes old new → GrowsSome old new (most_lets options calls)
+lowers_grow options around [] [] old new same = (0, subst (λ frame. Builds old frame 0 0) (sym same) (builds_none old))
+lowers_grow options around [] (outcome ∷ outcomes) old new were = absurd were
+lowers_grow options around (call ∷ calls) [] old new were = absurd were
+lowers_grow options around (call ∷ calls) (Off ∷ outcomes) old new were =
+    let rest = lowers_grow options around calls outcomes were.0 new were.2 in
+    (rest.0, subst (λ frame. Builds frame new rest.0 (lets_of options call + most_lets options calls)) were.1.1 (builds_within rest.1 (omega arith) (omega arith)))
+lowers_grow options around (call ∷ calls) (Code id ∷ outcomes) old new were =
+    let rest = lowers_grow options around calls outcomes were.0 new were.2 in
+    let two = on_lets options call were.1.0 in
+    (were.1.1.grown.0 + rest.0, builds_within (builds_then were.1.1.grown.1 rest.1) (omega arith) (omega (arith, two)))
 
--- a call more that was lowered from the store that the calls in front of it left
-pub lowers_on : (options : OptionSet) (old mid new : ExpressionStore) (calls : List GatedCall) (outcomes : List Outcome) (call : GatedCall) (outcome : Outcome) → Lowers options calls outcomes old mid → LowersCall options call outcome mid new → Lowers options (calls ++ call ∷ []) (outcomes ++ outcome ∷ []) old new
-lowers_on options old mid new [] [] call outcome same last = (new, subst (λ store. LowersCall options call outcome store new) same last, refl)
-lowers_on options old mid new [] (other ∷ outcomes) call outcome were last = absurd were
-lowers_on options old mid new (other ∷ calls) [] call outcome were last = absurd were
-lowers_on options old mid new (other ∷ calls) (next ∷ outcomes) call outcome were last = (were.0, were.1, lowers_on options were.0 mid new calls outcomes call outcome were.2 last)
+pub outcomes_are : (options : OptionSet) (around : Surroundings) (calls : List GatedCall) (outcomes : List Outcome) (old new : Frame) → Lowers options around calls outcomes old new → AreOutcomes options around new.store calls outcomes
+outcomes_are options around [] [] old new were = tt
+outcomes_are options around [] (outcome ∷ outcomes) old new were = were
+outcomes_are options around (call ∷ calls) [] old new were = were
+outcomes_are options around (call ∷ calls) (Off ∷ outcomes) old new were = (were.1.0, outcomes_are options around calls outcomes were.0 new were.2)
+outcomes_are options around (call ∷ calls) (Code id ∷ outcomes) old new were =
+    let grown = lowers_grow options around calls outcomes were.0 new were.2 in
+    ((were.1.0, code_later grown.1 around call.call id were.1.1.code), outcomes_are options around calls outcomes were.0 new were.2)
 
-pub in_store_on : (store : ExpressionStore) (outcomes : List Outcome) (outcome : Outcome) → AreInStore store outcomes → IsInStore store outcome → AreInStore store (outcomes ++ outcome ∷ [])
-in_store_on store [] outcome are within = (within, tt)
-in_store_on store (other ∷ outcomes) outcome are within = (are.0, in_store_on store outcomes outcome are.1 within)
+rising_lower : (least more : ℕ) (outcomes : List Outcome) → least ≤ more → AreRising more outcomes → AreRising least outcomes
+rising_lower least more [] le are = tt
+rising_lower least more (Off ∷ outcomes) le are = rising_lower least more outcomes le are
+rising_lower least more (Code id ∷ outcomes) le are = (omega (arith, le, are.0), are.1)
 
--- a lower bound may be lowered
-pub from_lower : (least most : ℕ) (outcome : Outcome) → least ≤ most → IsFrom most outcome → IsFrom least outcome
-from_lower least most Off le from = tt
-from_lower least most (Code id) le from = omega (arith, le, from)
+pub rising_are : (options : OptionSet) (around : Surroundings) (calls : List GatedCall) (outcomes : List Outcome) (old new : Frame) → Lowers options around calls outcomes old new → AreRising (length old.store.exprs) outcomes
+rising_are options around [] [] old new were = tt
+rising_are options around [] (outcome ∷ outcomes) old new were = absurd were
+rising_are options around (call ∷ calls) [] old new were = absurd were
+rising_are options around (call ∷ calls) (Off ∷ outcomes) old new were =
+    subst (λ (frame : Frame). AreRising (length frame.store.exprs) outcomes) were.1.1 (rising_are options around calls outcomes were.0 new were.2)
+rising_are options around (call ∷ calls) (Code id ∷ outcomes) old new were =
+    (were.1.1.later, rising_lower (suc (place_of id)) (length were.0.store.exprs) outcomes (omega (arith, were.1.1.within)) (rising_are options around calls outcomes were.0 new were.2))
 
--- a code from a place on rises above those in front of that place
-pub rising_on : (store : ExpressionStore) (least : ℕ) (outcomes : List Outcome) (outcome : Outcome) → AreRising least outcomes → AreInStore store outcomes → IsFrom least outcome → IsFrom (length store.exprs) outcome → AreRising least (outcomes ++ outcome ∷ [])
-rising_on store least [] Off are within above behind = tt
-rising_on store least [] (Code id) are within above behind = (above, tt)
-rising_on store least (Off ∷ outcomes) outcome are within above behind = rising_on store least outcomes outcome are within.1 above behind
-rising_on store least (Code other ∷ outcomes) outcome are within above behind = (are.0, rising_on store (suc (place_of other)) outcomes outcome are.1 within.1 (from_lower _ _ outcome (omega (arith, within.0)) behind) behind)
+pub in_store_are : (options : OptionSet) (around : Surroundings) (calls : List GatedCall) (outcomes : List Outcome) (old new : Frame) → Lowers options around calls outcomes old new → AreInStore new.store outcomes
+in_store_are options around [] [] old new were = tt
+in_store_are options around [] (outcome ∷ outcomes) old new were = absurd were
+in_store_are options around (call ∷ calls) [] old new were = absurd were
+in_store_are options around (call ∷ calls) (Off ∷ outcomes) old new were = (tt, in_store_are options around calls outcomes were.0 new were.2)
+in_store_are options around (call ∷ calls) (Code id ∷ outcomes) old new were =
+    let grown = lowers_grow options around calls outcomes were.0 new were.2 in
+    let more = longer grown.1 in
+    (omega (arith, were.1.1.within, more), in_store_are options around calls outcomes were.0 new were.2)
 
--- the calls' most
-pub most_on : (options : OptionSet) (calls : List GatedCall) (call : GatedCall) → most_exprs options (calls ++ call ∷ []) ≡ most_exprs options calls + most_of options call
-most_on options [] call = omega arith
-most_on options (other ∷ calls) call = ap (λ n. most_of options other + n) (most_on options calls call) ∙ sym (add_assoc (most_of options other) (most_exprs options calls) (most_of options call))
+-- a call more that was lowered from what the calls in front of it left
+pub lowers_on : (options : OptionSet) (around : Surroundings) (old mid new : Frame) (calls : List GatedCall) (outcomes : List Outcome) (call : GatedCall) (outcome : Outcome) → Lowers options around calls outcomes old mid → LowersCall options around call outcome mid new
+    → Lowers options around (calls ++ call ∷ []) (outcomes ++ outcome ∷ []) old new
+lowers_on options around old mid new [] [] call outcome same last = (new, subst (λ frame. LowersCall options around call outcome frame new) same last, refl)
+lowers_on options around old mid new [] (other ∷ outcomes) call outcome were last = absurd were
+lowers_on options around old mid new (other ∷ calls) [] call outcome were last = absurd were
+lowers_on options around old mid new (other ∷ calls) (next ∷ outcomes) call outcome were last = (were.0, were.1, lowers_on options around were.0 mid new calls outcomes call outcome were.2 last)
 
-pub most_take : (options : OptionSet) (n : ℕ) (calls : List GatedCall) → most_exprs options (take n calls) ≤ most_exprs options calls
-most_take options zero calls = omega arith
-most_take options (suc n) [] = omega arith
-most_take options (suc n) (call ∷ calls) = let h = most_take options n calls in omega arith
+-- Sizes
 
--- one call more of a list
-pub next_call : (calls : List GatedCall) (i : ℕ) (call : GatedCall) → i < length calls → call ≡ get_or calls i call → take (i + 1) calls ≡ take i calls ++ call ∷ []
-next_call calls i call lt is = take_more calls i call lt ∙ ap (λ (x : GatedCall). take i calls ++ x ∷ []) (sym is)
-
--- the calls so far and one more take no more than all
-pub most_next : (options : OptionSet) (calls : List GatedCall) (i : ℕ) (call : GatedCall) → take (i + 1) calls ≡ take i calls ++ call ∷ [] → most_exprs options (take i calls) + most_of options call ≤ most_exprs options calls
-most_next options calls i call next = let e = most_take options (i + 1) calls in let f = ap (most_exprs options) next ∙ most_on options (take i calls) call in omega arith
-
--- and the same of patterns and bindings
-pub lets_on : (options : OptionSet) (calls : List GatedCall) (call : GatedCall) → most_lets options (calls ++ call ∷ []) ≡ most_lets options calls + lets_of options call
-lets_on options [] call = omega arith
-lets_on options (other ∷ calls) call = ap (λ n. lets_of options other + n) (lets_on options calls call) ∙ sym (add_assoc (lets_of options other) (most_lets options calls) (lets_of options call))
-
-lets_take : (options : OptionSet) (n : ℕ) (calls : List GatedCall) → most_lets options (take n calls) ≤ most_lets options calls
-lets_take options zero calls = omega arith
-lets_take options (suc n) [] = omega arith
-lets_take options (suc n) (call ∷ calls) = let h = lets_take options n calls in omega arith
-
-pub lets_next : (options : OptionSet) (calls : List GatedCall) (i : ℕ) (call : GatedCall) → take (i + 1) calls ≡ take i calls ++ call ∷ [] → most_lets options (take i calls) + lets_of options call ≤ most_lets options calls
-lets_next options calls i call next = let e = lets_take options (i + 1) calls in let f = ap (most_lets options) next ∙ lets_on options (take i calls) call in omega arith
-
--- a store that grew is no shorter
-pub longer : (old new : ExpressionStore) → Grows old new → length old.exprs ≤ length new.exprs
-longer old new grows = omega (arith, ap length grows.exprs.1, length-append old.exprs grows.exprs.0)
-
--- calls place no more patterns, and no more bindings, than expressions
-lets_below_one : (options : OptionSet) (call : GatedCall) → lets_of options call ≤ most_of options call
-lets_below_one options call = by_off (is_off options call.cfgs) call.call
+-- the most of calls in front of others, and of these
+pub most_both : (options : OptionSet) (around : Surroundings) (xs ys : List GatedCall) (most : ℕ) → AreMost options around (xs ++ ys) most → (front : ℕ) × (rest : ℕ) × AreMost options around xs front × AreMost options around ys rest × (most ≡ front + rest)
+most_both options around [] ys most are = (0, most, refl, are, omega arith)
+most_both options around (call ∷ xs) ys most are =
+    let more = most_both options around xs ys are.1 are.3 in
+    (are.0 + more.0, more.1, (are.0, more.0, are.2, more.2, refl), more.3, sum are.0 are.1 more.0 more.1 most are.4 more.4)
   where
-    by_off : (off : Bool) (called : Call) → cond off 0 2 ≤ cond off 0 (most_of_call called)
-    by_off true called = omega arith
-    by_off false (Format call) = omega arith
+    sum : (one rest front behind all : ℕ) → all ≡ one + rest → rest ≡ front + behind → all ≡ (one + front) + behind
+    sum one rest front behind all e f = omega arith
 
-lets_below : (options : OptionSet) (calls : List GatedCall) → most_lets options calls ≤ most_exprs options calls
-lets_below options [] = omega arith
-lets_below options (call ∷ calls) = let one = lets_below_one options call in let more = lets_below options calls in omega arith
+pub lets_both : (options : OptionSet) (xs ys : List GatedCall) → most_lets options (xs ++ ys) ≡ most_lets options xs + most_lets options ys
+lets_both options [] ys = omega arith
+lets_both options (call ∷ xs) ys = let more = lets_both options xs ys in omega (arith, more)
 
--- where a store without values cannot hold what calls place, they place more expressions than an arena holds
-pub many_exprs : (options : OptionSet) (calls : List GatedCall) (store : ExpressionStore) → store.exprs ≡ [] → store.pats ≡ [] → store.bindings ≡ [] → Outgrows store (most_exprs options calls) (most_lets options calls) → 4_294_967_295 < most_exprs options calls
-many_exprs options calls store exprs pats bindings (inl full) = omega (arith, full, ap length exprs)
-many_exprs options calls store exprs pats bindings (inr (inl full)) = let below = lets_below options calls in omega (arith, full, ap length pats)
-many_exprs options calls store exprs pats bindings (inr (inr full)) = let below = lets_below options calls in omega (arith, full, ap length bindings)
+-- The steps of one call
+
+-- the code of a format call that was placed
+pub placed_call : (around : Surroundings) (old new : Frame) (format : FormatCall) (result : Result ExprId LowerError) → ((most : ℕ) → IsMost around format most → Builds old new most 2) → GrowsSome old new 2
+    → IfOk result (λ made. IsCallCode around format old.fresh new.store made) → IfOk result (λ made. length old.store.exprs ≤ place_of made) → IfOk result (λ made. PlacesCall around old (Format format) made new)
+placed_call around old new format (Ok id) builds grown code later = record { code = format_code_of around format old.fresh new.store id code; within = code.within; later = later; grown = grown; builds = builds }
+placed_call around old new format (Err error) builds grown code later = tt
+
+module _ (around : Surroundings) (most : ℕ) where
+  most_two : (call : Call) → IsMostOf around call most → 2 ≤ most
+  most_two (Format call) (inl is) = omega (arith, is.3)
+  most_two (Format call) (inr is) = omega (arith, is.1)
+
+  lets_least : (options : OptionSet) (call : GatedCall) → IsMostGated options around call most → lets_of options call ≤ most
+  lets_least options call (inl off) = let none : lets_of options call ≡ 0 = rw off.0 refl in omega (arith, none)
+  lets_least options call (inr on) = let two = on_lets options call on.0 in let least = most_two call.call on.1 in omega (arith, two, least)
+
+-- calls place no more patterns than expressions
+pub lets_fewer : (options : OptionSet) (around : Surroundings) (calls : List GatedCall) (most : ℕ) → AreMost options around calls most → most_lets options calls ≤ most
+lets_fewer options around [] most are = omega arith
+lets_fewer options around (call ∷ calls) most are =
+    let one = lets_least around are.0 options call are.2 in
+    let rest = lets_fewer options around calls are.1 are.3 in
+    omega (arith, are.4, one, rest)

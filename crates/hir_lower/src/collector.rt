@@ -1,59 +1,89 @@
-ghost use Rattle.std.specs.Prelude.{◌≡◌, ◌+◌, ◌<◌, ◌≤◌, length, IfOk};
+ghost use Rattle.std.specs.Prelude.{◌≡◌, ◌+◌, ◌*◌, ◌<◌, ◌≤◌, ℕ, length, IfOk, IfSome, option_map, OnOk};
+ghost use Rattle.sym_core.specs.declared.files.HirFileId.TheVariants.{File};
+ghost use Rattle.hir_expander.specs.Machine.{max_recursion_limit};
+ghost use Rattle.hir_expander.specs.Reached.{literal_of, is_direct};
 ghost use Rattle.hir_store.specs.Unfolding.{place_of};
+ghost use Rattle.hir_store.specs.PartsBelow.{AllBelow};
 ghost use Rattle.hir_store.specs.Store.{Grows, NoDanglingIds, IsEmptyStore, EachDefines};
-ghost use Rattle.hir_lower.specs.Building.{Builds, Outgrows};
-ghost use Rattle.hir_lower.specs.Lowered.{AreOutcomes, IsOutcome, IsCode, AreRising, IsFrom, IsInStore, AreInStore, PlacesCall, LowersCall, Lowers, most_of_call, most_of, most_exprs, lets_of, most_lets};
-ghost use Rattle.ra_cfg.specs.Reading.{is_off};
+ghost use Rattle.hir_build.specs.Building.{Outgrows};
+ghost use Rattle.template_bytes.specs.Canonical.{canonical_pieces};
+ghost use Rattle.template_bytes.specs.Pairs.{pairs_of};
+ghost use Rattle.hir_lower.specs.Collector.{Stays, around, frame_of};
+ghost use Rattle.hir_lower.specs.FormatArgs.{IsCodeOf, exprs_of, fresh_behind};
+ghost use Rattle.hir_lower.specs.CallCode.{IsCallCode};
+ghost use Rattle.hir_lower.specs.Lowered.{AreOutcomes, AreRising, AreInStore, IsMost, AreMost, Lowers, most_lets};
 
-use crate::format_args::collect_format_args;
-use crate::{Call, GatedCall, LowerError, Outcome};
-use hir_store::{ExprId, ExpressionStore};
-use ra_cfg::{CfgExpr, CfgOptions};
+use crate::call::lower_format_call;
+use crate::format_args::build_format_args;
+use crate::lowering::Lowering;
+use crate::{GatedCall, LowerError, Outcome};
+use hir_build::Builder;
+use hir_expander::{Expander, Macros};
+use hir_fmt::FormatArgs;
+use hir_store::{ExprId, ExpressionStore, LangItems};
+use ra_cfg::CfgOptions;
 use std::alloc::Global;
 use std::marker::Model;
+use sym_core::{AstPtr, FileId, HirFileId};
+use syn_trees::{FormatCall, StringLit, Template};
 
-/// Lowers calls into a store of its own.
+/// Lowers calls of one file into a store of its own.
 ///
 /// Where the options have `unix`, and the calls are `format_args!("a")` under the predicate `windows` and
 /// `format_args!("b")` under `unix`, the first is off and the second becomes three expressions:
 ///
 /// ```
-/// let mut collector = ExprCollector::new(alloc);
-/// let outcomes = collector.collect_gated(alloc, &calls, &options)?;
+/// let mut collector = ExprCollector::new(alloc, &macros, file, 128, items);
+/// let outcomes = collector.collect_gated(alloc, &calls, &options, &macros)?;
 /// assert!(rt; matches!(outcomes.as_slice(), [Outcome::Off, Outcome::Code(_)]));
 /// assert_eq!(rt; collector.store().exprs.len(), 3);
 /// ```
-#[derive(Debug, Drop)]
+///
+/// Between two of its calls a collector stands in its file, outside of all expansions, after a refusal too. What stood
+/// in the store before a call stays there: expressions, patterns and bindings keep index and value, and the maps keep
+/// what they held at them. A call that is refused may leave what it placed before.
+#[derive(Drop)]
 pub struct ExprCollector {
-    store: ExpressionStore,
-    // How many fresh names have a binding.
-    fresh: u32,
+    inside: Lowering,
 }
 
 impl Model for ExprCollector {
-    ghost use Rattle.hir_lower.specs.Collector.{Collector};
+    ghost use Rattle.hir_lower.specs.Collector.{Collector, IsAtRest, collector_of};
 
     ghost Value = { Collector };
 
-    ghost view = { λ collector. record { store = collector.store } };
+    ghost view = { λ collector. collector_of collector.inside.builder collector.inside.expander };
 
-    ghost use Rattle.hir_store.specs.Store.{NoDanglingIds, EachDefines};
-
-    ghost invariant = { λ collector. NoDanglingIds collector.store × EachDefines collector.store };
+    ghost invariant = { λ collector. IsAtRest collector.inside.builder collector.inside.expander };
 }
 
 impl ExprCollector {
-    /// A collector with an empty store, which takes no memory.
-    pub fn new(alloc: Global) -> ExprCollector
-        ensures { IsEmptyStore result.store }
+    /// Creates a collector with an empty store, which takes no memory. Its calls stand in this file, and lie at most as
+    /// deep in expansions as the recursion limit and one more. Language items that are not there are missing in code.
+    pub fn new<M: Macros>(
+        alloc: Global,
+        macros: &M,
+        file: FileId,
+        recursion_limit: u32,
+        items: LangItems,
+    ) -> ExprCollector
+        requires limit { recursion_limit ≤ max_recursion_limit }
+        ensures empty { IsEmptyStore result.store }
+        ensures fresh { result.fresh ≡ 0 }
+        ensures file { result.file ≡ File file }
+        ensures limit { result.limit ≡ recursion_limit }
+        ensures items { result.items ≡ items }
     {
+        let file = HirFileId::File(file);
         ExprCollector {
-            store: ExpressionStore::new(alloc),
-            fresh: 0,
+            inside: Lowering {
+                builder: Builder::new(alloc, file, items),
+                expander: Expander::new(macros, file, 0, recursion_limit),
+            },
         }
     }
 
-    /// The store that was filled so far; for an example see [`ExprCollector`].
+    /// Returns the store with what was lowered so far; for an example see [`ExprCollector`].
     ///
     /// Whatever it names is in it: every part of an expression stands before the whole, and the maps name expressions
     /// alone. Each pattern is the definition of the binding that it binds.
@@ -62,145 +92,123 @@ impl ExprCollector {
         ensures placed { NoDanglingIds result.now }
         ensures defined { EachDefines result.now }
     {
-        &self.store
+        self.inside.builder.store()
     }
 
-    /// Lowers calls under options, one after the other, and answers one outcome for each, in order.
+    /// Reads a template as a string literal, through macro calls too: returns the literal that it reaches, and whether
+    /// the template is that literal itself. None where it is anything else, or a call that does not lead to a literal
+    /// within the recursion limit. It takes no memory.
+    pub fn expand_macros_to_string<'t, M: Macros>(
+        &mut self,
+        template: &'t Template,
+        macros: &'t M,
+    ) -> Option<(&'t StringLit, bool)>
+        ensures literal { option_map (λ reached. reached.0.now) result ≡ literal_of (M.resolved macros.now) (M.expanded macros.now) self.old.limit self.old.file template.now }
+        ensures direct { IfSome result (λ reached. reached.1 ≡ is_direct template.now) }
+        ensures unchanged { self.new ≡ self.old }
+    {
+        self.inside
+            .expander
+            .expand_macros_to_string(macros, template)
+    }
+
+    /// Lowers a call of `format_args!`, whatever it is, and returns its code.
+    ///
+    /// The text of a call is the value of the literal that its template reaches. Where there is none, or the text is no
+    /// format string, the code is that of an empty text. The map of captures has the spans of the names that
+    /// placeholders use, at the code.
+    ///
+    /// # Errors
+    ///
+    /// `ArenaFull` comes only where an arena does not hold as many more as the call places at most: of n arguments,
+    /// captured ones among them, and p pairs of an argument and a use these are 2n + 4p + 9 expressions, two patterns
+    /// and two bindings. `Memory` may come from every call.
+    pub fn collect_format_args<M: Macros>(
+        &mut self,
+        alloc: Global,
+        f: &FormatCall,
+        macros: &M,
+    ) -> Result<ExprId, LowerError>
+        ensures code { IfOk result (λ made. IsCallCode (around (M.resolved macros.now) (M.expanded macros.now) self.old) f.now self.old.fresh self.new.store made) }
+        ensures later { IfOk result (λ made. length self.old.store.exprs ≤ place_of made) }
+        ensures stays { Stays self.old self.new }
+        ensures older { Grows self.old.store self.new.store }
+        ensures count { (most : ℕ) → IsMost (around (M.resolved macros.now) (M.expanded macros.now) self.old) f.now most → length self.new.store.exprs ≤ length self.old.store.exprs + most }
+        ensures patterns { length self.new.store.pats ≤ length self.old.store.pats + 2 }
+        ensures bindings { length self.new.store.bindings ≤ length self.old.store.bindings + 2 }
+        ensures full { result ≡ Err LowerError.ArenaFull → (most : ℕ) → IsMost (around (M.resolved macros.now) (M.expanded macros.now) self.old) f.now most → Outgrows self.old.store most 2 }
+    {
+        let Lowering { builder, expander } = &mut self.inside;
+        lower_format_call(builder, expander, alloc, f, macros)
+    }
+
+    /// Lowers a parsed template over its arguments, whose expressions stand in the store already, and returns its code,
+    /// which is at this pointer.
+    ///
+    /// An argument that a piece refers to and that is not there is a missing expression in the code.
+    ///
+    /// # Errors
+    ///
+    /// As of [`ExprCollector::collect_format_args`], where n arguments count once alone: n + 4p + 9.
+    pub fn collect_format_args_impl(
+        &mut self,
+        alloc: Global,
+        ptr: AstPtr,
+        fmt: FormatArgs,
+    ) -> Result<ExprId, LowerError>
+        requires arguments { AllBelow (length self.old.store.exprs) (exprs_of fmt.arguments.arguments) }
+        requires orphans { AllBelow (length self.old.store.exprs) fmt.orphans }
+        ensures code { IfOk result (λ made. IsCodeOf (frame_of self.old) self.new.store ptr fmt made) }
+        ensures later { IfOk result (λ made. length self.old.store.exprs ≤ place_of made) }
+        ensures newest { IfOk result (λ made. place_of made + 1 ≡ length self.new.store.exprs) }
+        ensures fresh { OnOk result (self.new.fresh ≡ fresh_behind self.old.fresh fmt) }
+        ensures stays { Stays self.old self.new }
+        ensures older { Grows self.old.store self.new.store }
+        ensures count { length self.new.store.exprs ≤ length self.old.store.exprs + (length fmt.arguments.arguments + 4 * length (pairs_of (canonical_pieces fmt.template)) + 9) }
+        ensures patterns { length self.new.store.pats ≤ length self.old.store.pats + 2 }
+        ensures bindings { length self.new.store.bindings ≤ length self.old.store.bindings + 2 }
+        ensures full { result ≡ Err LowerError.ArenaFull → Outgrows self.old.store (length fmt.arguments.arguments + 4 * length (pairs_of (canonical_pieces fmt.template)) + 9) 2 }
+    {
+        build_format_args(&mut self.inside.builder, alloc, ptr, &fmt)
+    }
+
+    /// Lowers calls under options, one after the other, and returns one outcome for each, in order.
     ///
     /// A call is off exactly where one of its predicates, each taken by itself, evaluates to `Some(false)`; it then
     /// leaves the store as it was. The code of any other call stands behind all that stood there before the call.
     ///
-    /// The code of a well formed `format_args!` evaluates its arguments once each, in order, and then yields a value
-    /// that means the writes of the call's text. A call is well formed where its text has pieces, with as many
-    /// placeholders as there are arguments, and each argument has an expression. Where there is no text with pieces,
-    /// the code evaluates the arguments, if each has an expression, and writes nothing; the text is the value of a
-    /// string literal, and no other template has one.
+    /// The code of a well formed `format_args!` evaluates its arguments once each, in order, the captured ones behind
+    /// those that are written, and then yields a value that means exactly the writes of the call's text. A call is well
+    /// formed where its template reaches a literal whose value is a format string, every reference of the text refers
+    /// to an argument, every written argument has an expression and is referred to, and both language items are there.
+    /// Where a text with a placeholder does not refer to an argument, the code evaluates it once more, behind all; a call
+    /// without a text evaluates its arguments and writes nothing.
     ///
-    /// Older expressions keep index and value, after a refusal too: the store then has what the first of the calls
-    /// placed, and maybe a part of the next one's code. No expression that is placed has a source yet. For an example
-    /// see [`ExprCollector`].
+    /// For an example see [`ExprCollector`].
     ///
     /// # Errors
     ///
-    /// `ArenaFull` comes only where the expressions, the patterns or the bindings at entry and the most that the calls
-    /// place pass 4,294,967,295. A call of n arguments and p placeholders that is not off places at most 2n + 4p + 9
-    /// expressions, one more for each argument behind the first p, two patterns and two bindings. `Memory` may come
-    /// wherever a call is lowered.
-    pub fn collect_gated(
+    /// `ArenaFull` comes only where an arena does not hold as many more as the calls place at most: a call that is off
+    /// places nothing, for any other see [`ExprCollector::collect_format_args`]. `Memory` may come wherever a call is
+    /// lowered.
+    pub fn collect_gated<M: Macros>(
         &mut self,
         alloc: Global,
         calls: &[GatedCall],
         opts: &CfgOptions,
+        macros: &M,
     ) -> Result<Vec<Outcome>, LowerError>
-        ensures outcomes { IfOk result (λ outcomes. AreOutcomes opts.now self.new.store calls.now outcomes.items) }
+        ensures outcomes { IfOk result (λ outcomes. AreOutcomes opts.now (around (M.resolved macros.now) (M.expanded macros.now) self.old) self.new.store calls.now outcomes.items) }
         ensures rising { IfOk result (λ outcomes. AreRising (length self.old.store.exprs) outcomes.items) }
         ensures within { IfOk result (λ outcomes. AreInStore self.new.store outcomes.items) }
-        ensures lowers { IfOk result (λ outcomes. Lowers opts.now calls.now outcomes.items self.old.store self.new.store) }
-
+        ensures lowers { IfOk result (λ outcomes. Lowers opts.now (around (M.resolved macros.now) (M.expanded macros.now) self.old) calls.now outcomes.items (frame_of self.old) (frame_of self.new)) }
+        ensures stays { Stays self.old self.new }
         ensures older { Grows self.old.store self.new.store }
-        ensures count { length self.new.store.exprs ≤ length self.old.store.exprs + most_exprs opts.now calls.now }
+        ensures count { (most : ℕ) → AreMost opts.now (around (M.resolved macros.now) (M.expanded macros.now) self.old) calls.now most → length self.new.store.exprs ≤ length self.old.store.exprs + most }
         ensures patterns { length self.new.store.pats ≤ length self.old.store.pats + most_lets opts.now calls.now }
         ensures bindings { length self.new.store.bindings ≤ length self.old.store.bindings + most_lets opts.now calls.now }
-        ensures full { result ≡ Err LowerError.ArenaFull → Outgrows self.old.store (most_exprs opts.now calls.now) (most_lets opts.now calls.now) }
+        ensures full { result ≡ Err LowerError.ArenaFull → (most : ℕ) → AreMost opts.now (around (M.resolved macros.now) (M.expanded macros.now) self.old) calls.now most → Outgrows self.old.store most (most_lets opts.now calls.now) }
     {
-        collect_all(alloc, &mut self.store, &mut self.fresh, calls, opts)
-    }
-}
-
-// Lowers calls into a store, one after the other.
-fn collect_all(
-    alloc: Global,
-    store: &mut ExpressionStore,
-    fresh: &mut u32,
-    calls: &[GatedCall],
-    opts: &CfgOptions,
-) -> Result<Vec<Outcome>, LowerError>
-    requires { NoDanglingIds store.old }
-    ensures outcomes { IfOk result (λ outcomes. AreOutcomes opts.now store.new calls.now outcomes.items) }
-    ensures rising { IfOk result (λ outcomes. AreRising (length store.old.exprs) outcomes.items) }
-    ensures within { IfOk result (λ outcomes. AreInStore store.new outcomes.items) }
-    ensures lowers { IfOk result (λ outcomes. Lowers opts.now calls.now outcomes.items store.old store.new) }
-    ensures builds { Builds store.old store.new (most_exprs opts.now calls.now) (most_lets opts.now calls.now) }
-    ensures full { result ≡ Err LowerError.ArenaFull → Outgrows store.old (most_exprs opts.now calls.now) (most_lets opts.now calls.now) }
-{
-    let mut outcomes = Vec::new(alloc);
-    for call in calls {
-        let outcome = collect_call(alloc, store, fresh, call, opts)?;
-        outcomes.push(outcome)?;
-    }
-    Ok(outcomes)
-}
-
-// Whether one of the predicates, each taken by itself, evaluates to `Some(false)`.
-fn is_off(cfgs: &[CfgExpr], opts: &CfgOptions) -> bool
-    ensures { result ≡ is_off opts.now cfgs.now }
-{
-    for cfg in cfgs {
-        if opts.check(cfg) == Some(false) {
-            return true;
-        }
-    }
-    false
-}
-
-// Lowers one call, if it is not off.
-fn collect_call(
-    alloc: Global,
-    store: &mut ExpressionStore,
-    fresh: &mut u32,
-    call: &GatedCall,
-    opts: &CfgOptions,
-) -> Result<Outcome, LowerError>
-    ensures outcome { IfOk result (λ outcome. IsOutcome opts.now store.new call.now outcome) }
-    ensures within { IfOk result (λ outcome. IsInStore store.new outcome) }
-    ensures later { IfOk result (λ outcome. IsFrom (length store.old.exprs) outcome) }
-    ensures lowers { IfOk result (λ outcome. LowersCall opts.now call.now outcome store.old store.new) }
-    ensures builds { Builds store.old store.new (most_of opts.now call.now) (lets_of opts.now call.now) }
-    ensures full { result ≡ Err LowerError.ArenaFull → Outgrows store.old (most_of opts.now call.now) (lets_of opts.now call.now) }
-{
-    if is_off(call.cfgs.as_slice(), opts) {
-        return Ok(Outcome::Off);
-    }
-    let code = collect_active(alloc, store, fresh, &call.call)?;
-    Ok(Outcome::Code(code))
-}
-
-// Lowers one call that is not off. A fresh name whose binding was placed is used up, after a refusal too.
-fn collect_active(
-    alloc: Global,
-    store: &mut ExpressionStore,
-    fresh: &mut u32,
-    call: &Call,
-) -> Result<ExprId, LowerError>
-    ensures code { IfOk result (λ id. IsCode store.new call.now id) }
-    ensures within { IfOk result (λ id. place_of id < length store.new.exprs) }
-    ensures later { IfOk result (λ id. length store.old.exprs ≤ place_of id) }
-    ensures builds { Builds store.old store.new (most_of_call call.now) 2 }
-    ensures full { result ≡ Err LowerError.ArenaFull → Outgrows store.old (most_of_call call.now) 2 }
-{
-    let bound = store.bindings.len();
-    let code = collect_code(alloc, store, *fresh, call);
-    if bound < store.bindings.len() {
-        // There are no more of them than bindings, so this never stays where it was.
-        *fresh = fresh.saturating_add(1);
-    }
-    code
-}
-
-// Lowers one call, where the next fresh name has this number.
-fn collect_code(
-    alloc: Global,
-    store: &mut ExpressionStore,
-    fresh: u32,
-    call: &Call,
-) -> Result<ExprId, LowerError>
-    ensures code { IfOk result (λ id. IsCode store.new call.now id) }
-    ensures within { IfOk result (λ id. place_of id < length store.new.exprs) }
-    ensures later { IfOk result (λ id. length store.old.exprs ≤ place_of id) }
-    ensures builds { Builds store.old store.new (most_of_call call.now) 2 }
-    ensures full { result ≡ Err LowerError.ArenaFull → Outgrows store.old (most_of_call call.now) 2 }
-{
-    match call {
-        Call::Format(f) => collect_format_args(alloc, store, fresh, f),
+        self.inside.lower_all(alloc, calls, opts, macros)
     }
 }

@@ -2,19 +2,16 @@
 //! What a call means is said of finished code: its evaluation, and the writes that its value stands for. See [`ExprCollector`].
 #![tactic(auto)]
 
-mod code;
+mod call;
+mod captures;
 mod collector;
-mod error;
 mod format_args;
-mod laws;
+mod lowering;
+mod name_log;
 mod outcome;
-mod template;
-mod template_text;
-#[cfg(test)]
-mod tests;
+mod written;
 
 pub use collector::ExprCollector;
-pub use error::LowerError;
 pub use gated_calls::{Call, GatedCall};
-pub use laws::{bytes_decode_once, code_runs_once};
+pub use hir_build::LowerError;
 pub use outcome::Outcome;

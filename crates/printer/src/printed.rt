@@ -106,6 +106,4 @@ fn push_use_line(
 }
 
 #[cfg(test)]
-mod lowered;
-#[cfg(test)]
 mod tests;

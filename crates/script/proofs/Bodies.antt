@@ -1,8 +1,7 @@
 -- What stands behind the keywords of lines is found, and what is found stands there.
-use Rattle.std.proofs.Common.{◌≡◌, ℕ, ◌+◌, Bool, true, false, cond, nat_eq, List, [], ◌∷◌, ◌++◌, length, Option, Some, None, refl, ap, ◌∙◌, sym, subst, append_assoc, length-append, codes, arith, eq-eqb}
+use Rattle.std.proofs.Common.{◌≡◌, ℕ, ◌+◌, Bool, true, false, cond, List, [], ◌∷◌, ◌++◌, length, Option, Some, None, refl, ap, ◌∙◌, sym, subst, append_assoc, length-append, codes, arith}
 use Rattle.std.specs.Option.{option_map, option_and_then}
 use Rattle.std.specs.Str.{bytes_eq}
-use Rattle.std.proofs.lemmas.Bool.{eqb-true}
 use Rattle.std.proofs.lemmas.Slice.Eq.{bytes_eq-Decides}
 use Rattle.std.proofs.lemmas.Option.{option_and_then_some, same_Some}
 use Rattle.text_cut.specs.Runs.{starts, front, size, AllPass, is_blank}
@@ -38,9 +37,8 @@ use Rattle.script_preds.proofs.Preds.{reads_preds}
 use Rattle.script_preds.proofs.Before.{pred_before}
 use Rattle.script.specs.Line.{BodyIs, ReadsBody}
 use Rattle.script.specs.Bodies.{Change, SetFlag, SetPair, SetVersion, IsName, IsString, IsPair, OptBody, answer_word, IsVersion, VersionBody, CfgBody, AttrBody, CallText, FormatBody}
-use Rattle.script.specs.ReadBodies.{name_at, pair_of, opt_with, opt_behind, opt_at, answer_of, answer_with, version_with, version_behind, version_at, cfg_at, attr_at, leaf_at, leaves_at, holes_of, counted_call, call_behind, format_at}
+use Rattle.script.specs.ReadBodies.{name_at, pair_of, opt_with, opt_behind, opt_at, answer_of, answer_with, version_with, version_behind, version_at, cfg_at, attr_at, leaf_at, leaves_at, call_of, format_at}
 use Rattle.script.proofs.Leaves.{LeavesAre, leaves_before, leaves_found, leaves_are}
-use Rattle.script.proofs.Placeholders.{TokenHas, token_holes_are, token_holes_found}
 
 -- a name is found where no word goes on behind it
 name_found : (text name rest : List ℕ) (at : ℕ) → IsName text name → starts continues_word rest ≡ false → name_at (place at (text ++ rest)) ≡ Some (name, place (at + size text) rest)
@@ -274,43 +272,28 @@ format_found text call after more at ends is =
     ∙ ap (λ l. (l, place (behind + size (texts is.spelled)) rest)) (sym is.leaves_are) in
     ap (λ l. format_at (place at (l ++ rest))) is.whole
     ∙ (ap (λ l. format_at (place at l)) (append_assoc is.string_text (texts is.spelled) rest)
-    ∙ (ap (λ o. option_and_then call_behind o) (token_found is.string_text call.token (texts is.spelled ++ rest) at is.string)
-    ∙ (ap (λ r. option_and_then (counted_call call.token r) (holes_of call.token)) leaves
-    ∙ (ap (λ o. option_and_then (counted_call call.token (call.leaves, place (behind + size (texts is.spelled)) rest)) o) (token_holes_found call.token (length call.leaves) (token_holes text call (after ++ 10 ∷ []) is))
-    ∙ (ap (λ b. cond b (Some (call, place (behind + size (texts is.spelled)) rest)) None) (eq-eqb (length call.leaves) (length call.leaves) refl)
-    ∙ ap (λ (n : ℕ). Some (call, place n rest)) (omega (arith, ap size is.whole, size_append is.string_text (texts is.spelled))))))))
-  where
-    token_holes : (text : List ℕ) (call : CallText) (rest : List ℕ) → (is : FormatBody text call rest) → TokenHas call.token (length call.leaves)
-    token_holes text call rest is = record { value = is.value; has_value = is.has_value; holes = record { pieces = is.pieces; has = is.has_pieces; fits = is.fits } }
+    ∙ (ap (λ o. option_map (λ (string : List ℕ × Place). call_of string.0 (leaves_at string.1)) o) (token_found is.string_text call.token (texts is.spelled ++ rest) at is.string)
+    ∙ (ap (λ r. Some (call_of call.token r)) leaves
+    ∙ ap (λ (n : ℕ). Some (call, place n rest)) (omega (arith, ap size is.whole, size_append is.string_text (texts is.spelled))))))
 
 -- a call stands where it is found
-counted_is : (p : Place) (string leaves : List ℕ × Place) (count : ℕ) (r : CallText × Place) → TokenIs p string → LeavesAre string.1 leaves → holes_of string.0 ≡ Some count → counted_call string.0 leaves count ≡ Some r → BodyIs FormatBody p r
-counted_is p string leaves count r token are holes found = chosen (nat_eq (length leaves.0) count) (Some (record { token = string.0; leaves = leaves.0 }, leaves.1)) None (Some r) found
-    (λ fits same.
-    let has : TokenHas string.0 (length leaves.0) = token_holes_are string.0 (length leaves.0) (holes ∙ ap (λ (n : ℕ). Some n) (sym (eqb-true (length leaves.0) count fits))) in
-    subst (λ z. BodyIs FormatBody p z) (same_Some _ _ same) (record {
-      text = token.text ++ texts are.spelled;
-      took = took_both p string.1 leaves.1 token.text (texts are.spelled) token.took are.took;
-      is = λ after more ends left. record {
-        string_text = token.text;
-        spelled = are.spelled;
-        whole = refl;
-        string = token.is;
-        value = has.value;
-        has_value = has.has_value;
-        pieces = has.holes.pieces;
-        has_pieces = has.holes.has;
-        are_leaves = leaves_before [] are.spelled leaves.1.left (after ++ 10 ∷ []) (word_ends after [] ends) (are.are []);
-        leaves_are = are.leaves_are;
-        fits = has.holes.fits;
-      };
-    }))
-    (λ other none. absurd (none_some r none))
+call_is : (p : Place) (string leaves : List ℕ × Place) → TokenIs p string → LeavesAre string.1 leaves → BodyIs FormatBody p (call_of string.0 leaves)
+call_is p string leaves token are = record {
+  text = token.text ++ texts are.spelled;
+  took = took_both p string.1 leaves.1 token.text (texts are.spelled) token.took are.took;
+  is = λ after more ends left. record {
+    string_text = token.text;
+    spelled = are.spelled;
+    whole = refl;
+    string = token.is;
+    are_leaves = leaves_before [] are.spelled leaves.1.left (after ++ 10 ∷ []) (word_ends after [] ends) (are.are []);
+    leaves_are = are.leaves_are;
+  };
+}
 
 pub format_reads : ReadsBody FormatBody format_at
 format_reads = record {
   found = format_found;
-  is = λ p r found. option_and_then_some call_behind (string_at p) r found
-      (λ string there behind. option_and_then_some (counted_call string.0 (leaves_at string.1)) (holes_of string.0) r behind
-      (λ count holes counted. counted_is p string (leaves_at string.1) count r (token_is p string there) (leaves_are (length string.1.left) string.1) holes counted));
+  is = λ p r found. mapped (λ (string : List ℕ × Place). call_of string.0 (leaves_at string.1)) (string_at p) r found
+      (λ string there same. subst (λ z. BodyIs FormatBody p z) same (call_is p string (leaves_at string.1) (token_is p string there) (leaves_are (length string.1.left) string.1)));
 }

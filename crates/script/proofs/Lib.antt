@@ -1,4 +1,3 @@
-pub mod Placeholders
 pub mod Leaves
 pub mod Arguments
 pub mod Words

@@ -5,7 +5,6 @@ use Rattle.std.specs.Str.Parse.{digits_value}
 use Rattle.std.specs.Char.{is_ascii_digit}
 use Rattle.text_cut.specs.Runs.{AllPass, starts, is_blank}
 use Rattle.text_cut.specs.Reading.{Spelled, texts, items, AreSpelled}
-use Rattle.code_meaning.specs.Write.{Piece}
 use Rattle.ra_cfg.specs.declared.cfg_expr.CfgExpr.{CfgExpr}
 use Rattle.ra_cfg.specs.TokenRules.{next_predicate}
 use Rattle.ra_cfg.specs.Syntax.{meaning}
@@ -15,7 +14,6 @@ use Rattle.script_trees.specs.Trees.{AreTrees}
 use Rattle.script_preds.specs.Grammar.{IsPredText}
 use Rattle.syn_trees.specs.StringToken.{IsStringToken}
 use Rattle.syn_trees.specs.Literal.{HasValue}
-use Rattle.hir_lower.specs.Pieces.{placeholders, HasPieces}
 use Rattle.script_tokens.specs.Words.{continues_word, IsWord}
 
 -- what a line does to the options: a flag is put in, a pair is put in, a version gets an answer
@@ -111,17 +109,11 @@ pub record CallText : Type 0 where
   pub token : List ℕ
   pub leaves : List ℕ
 
--- behind `format`: a string and leaves; the string has a value (one with an escape that is refused is no item, for now), and the value
--- has as many placeholders as there are leaves
+-- behind `format`: a string token and leaves
 pub record FormatBody (text : List ℕ) (call : CallText) (rest : List ℕ) : Type 0 where
   pub string_text : List ℕ
   pub spelled : List (Spelled ℕ)
   pub whole : text ≡ string_text ++ texts spelled
   pub string : IsString string_text call.token
-  pub value : List ℕ
-  pub has_value : HasValue call.token value
-  pub pieces : List Piece
-  pub has_pieces : HasPieces value pieces
   pub are_leaves : AreSpelled IsLeaf [] spelled rest
   pub leaves_are : call.leaves ≡ items spelled
-  pub fits : placeholders pieces ≡ length call.leaves

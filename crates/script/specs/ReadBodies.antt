@@ -1,14 +1,13 @@
 -- What stands behind the keywords of lines, as functions of the characters at a place.
-use Rattle.std.specs.Prelude.{ℕ, zero, suc, Bool, true, false, ◌&&◌, nat_eq, List, [], ◌∷◌, length, Option, Some, None, codes, if◌then◌else◌, option_map}
+use Rattle.std.specs.Prelude.{ℕ, zero, suc, Bool, true, false, List, [], ◌∷◌, length, Option, Some, None, codes, if◌then◌else◌, option_map}
 use Rattle.std.specs.Option.{option_and_then}
-use Rattle.std.specs.Str.{chars, bytes_eq}
+use Rattle.std.specs.Str.{bytes_eq}
 use Rattle.text_cut.specs.Runs.{is_blank}
 use Rattle.text_cut.specs.Place.{Place, past}
 use Rattle.syn_trees.specs.ReadString.{value_of}
 use Rattle.ra_cfg.specs.declared.cfg_expr.CfgExpr.{CfgExpr}
 use Rattle.ra_cfg.specs.TokenRules.{next_predicate}
 use Rattle.ra_cfg.specs.Syntax.{meaning}
-use Rattle.hir_lower.specs.Parts.{parts_of, holes}
 use Rattle.script_tokens.specs.ReadTokens.{past_spaced, word_at, string_at, number_at}
 use Rattle.script_trees.specs.ReadTrees.{trees_at}
 use Rattle.script_preds.specs.ReadPreds.{pred_at}
@@ -81,31 +80,10 @@ leaves_within (suc most) p = leaf_then (leaf_at p) (λ e. leaves_within most e) 
 abbrev pub leaves_at : Place → List ℕ × Place
 leaves_at p = leaves_within (length p.left) p
 
--- the first character of a text, and what is behind it
-abbrev pub first_of : List ℕ → Option (ℕ × List ℕ)
-first_of [] = None
-first_of (c ∷ left) = Some (c, left)
-
--- whether a brace and the character behind it are a placeholder; nothing where they are no doubled brace either
-abbrev pub is_placeholder : ℕ → ℕ → Option Bool
-is_placeholder b c = if nat_eq c b then Some false else if nat_eq b 123 && nat_eq c 125 then Some true else None
-
--- how many placeholders the bytes of a text have; nothing where the text has no pieces
-abbrev pub holes_in : List ℕ → Option ℕ
-holes_in text = option_map holes (parts_of (chars text))
-
--- how many placeholders the value of a token has; nothing where there is no value, or it has no pieces
-abbrev pub holes_of : List ℕ → Option ℕ
-holes_of token = option_and_then holes_in (value_of token)
-
--- the call of a token with so many placeholders, if as many leaves were read
-abbrev pub counted_call : List ℕ → List ℕ × Place → ℕ → Option (CallText × Place)
-counted_call token leaves count = if nat_eq (length leaves.0) count then Some (record { token = token; leaves = leaves.0 }, leaves.1) else None
-
--- the call whose string was read
-abbrev pub call_behind : List ℕ × Place → Option (CallText × Place)
-call_behind string = option_and_then (counted_call string.0 (leaves_at string.1)) (holes_of string.0)
+-- the call of a token and of the leaves that stand behind it
+abbrev pub call_of : List ℕ → List ℕ × Place → CallText × Place
+call_of token leaves = (record { token = token; leaves = leaves.0 }, leaves.1)
 
 -- what stands behind `format`
 abbrev pub format_at : Place → Option (CallText × Place)
-format_at p = option_and_then call_behind (string_at p)
+format_at p = option_map (λ string. call_of string.0 (leaves_at string.1)) (string_at p)

@@ -5,13 +5,12 @@ ghost use Rattle.syn_trees.specs.Literal.{IsLiteral};
 ghost use Rattle.syn_trees.specs.ReadString.{value_of};
 ghost use Rattle.script_tokens.specs.ReadTokens.{string_at};
 ghost use Rattle.script.specs.Script.{OptionItem, PredicateItem, FormatItem, argument};
-ghost use Rattle.script.specs.ReadBodies.{pair_of, opt_at, version_at, cfg_at, attr_at, leaves_at, holes_of, format_at};
+ghost use Rattle.script.specs.ReadBodies.{pair_of, opt_at, version_at, cfg_at, attr_at, leaves_at, format_at};
 ghost use Rattle.script.specs.ReadItem.{as_item, gated_item, keyword_item, item_at};
 ghost use Rattle.script.specs.ItemOf.{leaf_of, item_of, AreArguments, IsNumbered};
 
 use crate::tokens::{
-    answer, attr_word, cfg_word, count_placeholders, equals, format_word, leaf, opt_word,
-    version_word,
+    answer, attr_word, cfg_word, equals, format_word, leaf, opt_word, version_word,
 };
 use ra_cfg::CfgExpr;
 use script_preds::read_pred;
@@ -50,7 +49,7 @@ pub(crate) enum ScriptItem<'a> {
     Format {
         /// Its string.
         literal: StringLit,
-        /// Its arguments, each a leaf, one for each placeholder of the string.
+        /// Its arguments, each a leaf.
         args: Items<FormatArgSyntax>,
     },
 }
@@ -167,16 +166,6 @@ fn read_leaves<'a>(
     Ok((args, end))
 }
 
-// How many placeholders the value of a literal has; none where there is no value, or it has no pieces.
-fn count_in(alloc: Global, literal: &StringLit) -> Result<Option<usize>, AllocError>
-    ensures { IfOk result (λ count. count ≡ holes_of literal.now) }
-{
-    match value_of(alloc, literal)? {
-        Some(value) => Ok(count_placeholders(value.as_str())),
-        None => Ok(None),
-    }
-}
-
 // What stands behind `cfg`.
 fn cfg_body<'a>(
     alloc: Global,
@@ -223,13 +212,7 @@ fn format_body<'a>(
         return Ok(None);
     };
     let literal = literal_of(alloc, token)?;
-    let Some(count) = count_in(alloc, &literal)? else {
-        return Ok(None);
-    };
     let (args, after) = read_leaves(alloc, behind, ptr)?;
-    if args.len() != count {
-        return Ok(None);
-    }
     Ok(Some((ScriptItem::Format { literal, args }, after)))
 }
 

@@ -236,8 +236,8 @@ mod tests {
             (b"format \"h\xc3\xa9\"", "\"hé\"\n"),
             (b"\n\n\xff", "line 3"),
             (b"opt a\nformat \"a", "line 2"),
-            (b"format \"a\"\nformat \"{\"\n", "line 2"),
-            (b"format \"{}\"", "line 1"),
+            (b"format \"{\"\n\nformat a\n", "line 3"),
+            (b"format \"{0}\"", "\"{0}\"\n"),
             (b"format \"a\\n\"", "\"a\\n\"\n"),
             (b"format \"a\" b", "line 1"),
         ];
@@ -291,10 +291,10 @@ mod tests {
             (b"format \"{}\" @+1", "line 1"),
             (b"format \"{}\" @", "line 1"),
             (b"format \"{}\" @ 1", "line 1"),
-            (b"\nformat \"{}\"", "line 2"),
-            (b"format \"{}{}\" @1", "line 1"),
-            (b"format \"{}\" @1 @2", "line 1"),
-            (b"format \"}{\" @1", "line 1"),
+            (b"\nformat \"{}\" 1", "line 2"),
+            (b"format \"{}{}\" @1", "\"{}{}\" @1\n"),
+            (b"format \"{}\" @1 @2", "\"{}\" @1 @2\n"),
+            (b"format \"}{\" @1", "\"}{\" @1\n"),
         ];
         for (bytes, want) in cases {
             assert_eq!(rt; told(rt.alloc(), bytes)?.as_str(), want, "at {bytes:?}");
@@ -352,12 +352,12 @@ mod tests {
             (b"format r#\"a\"b{}\"# @3", "r#\"a\"b{}\"# @3\n"),
             (b"format \"a\\x41\"", "\"a\\x41\"\n"),
             (b"format \"\\x7b}\" @1", "\"\\x7b}\" @1\n"),
-            (b"format \"\\q\"", "line 1"),
+            (b"format \"\\q\"", "\"\\q\"\n"),
             (b"format r\"\\q\"", "r\"\\q\"\n"),
             (b"format \"a\nb\"", "\"a\nb\"\n"),
             (b"format \"a\nb\"\n?", "line 3"),
-            (b"format\"x\"@1", "line 1"),
-            (b"format\"{}\"@1", "\"{}\" @1\n"),
+            (b"format\"x\"@1", "\"x\" @1\n"),
+            (b"opt a = \"\\q\"", "line 1"),
             (b"format r\"a", "line 1"),
             (b"format r#\"a\"", "line 1"),
         ];

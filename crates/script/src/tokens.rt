@@ -1,11 +1,11 @@
-ghost use Rattle.std.specs.Prelude.{◌≡◌, ◌+◌, ◌≤◌, ◌<◌, [], ◌∷◌, IfSome, length, chars, codes, option_map};
+ghost use Rattle.std.specs.Prelude.{◌≡◌, ◌+◌, ◌≤◌, [], ◌∷◌, IfSome, length, codes, option_map};
 ghost use Rattle.text_cut.specs.Rules.{past_word};
 ghost use Rattle.text_cut.specs.Seen.{seen};
 ghost use Rattle.script_tokens.specs.ReadTokens.{past_keyword, past_spaced};
-ghost use Rattle.script.specs.ReadBodies.{answer_of, leaf_at, is_placeholder, holes_in, first_of};
+ghost use Rattle.script.specs.ReadBodies.{answer_of, leaf_at};
 
 use script_tokens::{keyword, number};
-use text_cut::{Cursor, blanks, eat, first_char};
+use text_cut::{Cursor, blanks, eat};
 
 // The place behind the keyword `opt`.
 #[tactic(auto, using(crate::proofs::Words::words))]
@@ -88,56 +88,4 @@ pub(crate) fn leaf(here: Cursor<'_>) -> Option<(u32, Cursor<'_>)>
 {
     let behind = at_sign(blanks(here))?;
     number(behind)
-}
-
-// Whether a brace with this character behind it is a placeholder; none where it is no doubled brace either.
-fn is_placeholder(brace: char, c: char) -> Option<bool>
-    ensures { result ≡ is_placeholder brace c }
-{
-    if c == brace {
-        Some(false)
-    } else if brace == '{' && c == '}' {
-        Some(true)
-    } else {
-        None
-    }
-}
-
-// What is still to be read of a text.
-#[derive(Clone, Copy, Drop)]
-struct Unread<'a> {
-    text: &'a str,
-}
-
-// The first character of a text, and what is behind it.
-fn first_unread(unread: Unread<'_>) -> Option<(char, Unread<'_>)>
-    ensures value { option_map (λ r. (r.0, chars r.1.text.now)) result ≡ first_of (chars unread.entry.text.now) }
-    ensures shorter { IfSome result (λ r. length r.1.text.now < length unread.entry.text.now) }
-{
-    let (c, text) = first_char(unread.text)?;
-    Some((c, Unread { text }))
-}
-
-/// How many placeholders a text has; none where it has no pieces.
-pub(crate) fn count_placeholders(text: &str) -> Option<usize>
-    ensures { result ≡ holes_in text.now }
-{
-    let mut count = 0;
-    let mut open = None;
-    let mut unread = Unread { text };
-    while let Some((c, behind)) = first_unread(unread) {
-        if let Some(brace) = open {
-            if is_placeholder(brace, c)? {
-                count += 1;
-            }
-            open = None;
-        } else if c == '{' || c == '}' {
-            open = Some(c);
-        }
-        unread = behind;
-    }
-    match open {
-        None => Some(count),
-        Some(_) => None,
-    }
 }

@@ -1,0 +1,81 @@
+use crate::calls::{ITEMS, collector, format_call, some_macros};
+use hir_lower::{Call, GatedCall};
+use printer::print_outcomes;
+use ra_cfg::{CfgAtom, CfgExpr, CfgOptions};
+use sqlite_items::Items;
+use std::alloc::{AllocError, Global};
+use std::test::Fail;
+use sym_core::Symbol;
+
+// Options with these flags.
+fn options_with(alloc: Global, flags: &str) -> Result<CfgOptions, AllocError> {
+    let mut options = CfgOptions::new(alloc)?;
+    for flag in flags.split_whitespace() {
+        options.insert_atom(Symbol::new(alloc, flag)?)?;
+    }
+    Ok(options)
+}
+
+// A call under predicates that are these flags.
+fn gated(alloc: Global, flags: &str, text: &str, words: &str) -> Result<GatedCall, AllocError> {
+    let mut cfgs = Items::new(alloc);
+    for flag in flags.split_whitespace() {
+        cfgs.push(CfgExpr::Atom(CfgAtom::Flag(Symbol::new(alloc, flag)?)))?;
+    }
+    let call = Call::Format(format_call(alloc, text, words)?);
+    Ok(GatedCall { cfgs, call })
+}
+
+// How many expressions the calls place, and what is printed of them, where `unix` and `test` are on, and the recursion
+// limit is 1.
+fn lowered(alloc: Global, calls: &[GatedCall]) -> Result<(usize, Vec<u8>), Fail> {
+    let options = options_with(alloc, "unix test")?;
+    let macros = some_macros(alloc)?;
+    let mut collector = collector(alloc, &macros, 1, ITEMS);
+    let outcomes = collector.collect_gated(alloc, calls, &options, &macros)?;
+    let store = collector.store();
+    let printed = print_outcomes(alloc, store, outcomes.as_slice())?;
+    Ok((store.exprs.len(), printed))
+}
+
+#[test]
+fn lowers_no_calls(rt: HostRuntime) -> Result<(), Fail> {
+    let (placed, printed) = lowered(rt.alloc(), &[])?;
+    assert_eq!(rt; placed, 0);
+    assert!(rt; printed.is_empty());
+    Ok(())
+}
+
+#[test]
+fn places_nothing_for_calls_that_are_off(rt: HostRuntime) -> Result<(), Fail> {
+    let alloc = rt.alloc();
+    let calls = [
+        gated(alloc, "windows", r#""{0:02x}""#, "2")?,
+        gated(alloc, "unix windows", r#""{}""#, "1")?,
+    ];
+    let (placed, printed) = lowered(alloc, &calls)?;
+    assert_eq!(rt; placed, 0);
+    assert_eq!(rt; printed.as_slice(), b"0 off\n1 off\n".as_slice());
+    Ok(())
+}
+
+// Each call that binds its arguments has a name of its own for them; other calls take none. A call whose macros lie too deep
+// leaves the next one untouched.
+#[test]
+fn lowers_calls_in_order(rt: HostRuntime) -> Result<(), Fail> {
+    let alloc = rt.alloc();
+    let calls = [
+        gated(alloc, "", r#""{:5}""#, "7")?,
+        gated(alloc, "windows", r#""{}""#, "2")?,
+        gated(alloc, "unix test", r#""{0}""#, "")?,
+        gated(alloc, "true", r#""{x}""#, "")?,
+        gated(alloc, "", "m1!", "1")?,
+        gated(alloc, "", "m2!", "")?,
+    ];
+    let (placed, printed) = lowered(alloc, &calls)?;
+    assert!(rt; placed > 0);
+    let want =
+        "0 code { let #0 = (&@7,); let #0 = [Argument::new_display(#0.0)]; unsafe { Arguments::new(b\"C320000068050000\", &#0) } }\n1 off\n2 code unsafe { Arguments::new(b\"C000\", &[]) }\n3 code { let #1 = (&x,); let #1 = [Argument::new_display(#1.0)]; unsafe { Arguments::new(b\"C000\", &#1) } }\n3 use x 2..3\n4 code { @1; Arguments::from_str(s\"\") }\n5 code Arguments::from_str(s\"6869\")\n";
+    assert_eq!(rt; printed.as_slice(), want.as_bytes());
+    Ok(())
+}
