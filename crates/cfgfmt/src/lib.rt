@@ -10,6 +10,7 @@ mod session;
 #[cfg(test)]
 mod tests;
 
+pub use hir_expander::MacroTable;
 pub use printer::print_outcomes;
 pub use program::run;
 pub use script::{Script, ScriptError, read_script};
