@@ -13,8 +13,9 @@ use Rattle.hir_store.specs.declared.source.CaptureSource.{CaptureSource}
 use Rattle.hir_store.specs.declared.store.ExpressionStore.{ExpressionStore}
 use Rattle.hir_store.specs.Tree.{Tree}
 use Rattle.hir_store.specs.Unfolding.{place_of}
-use Rattle.hir_store.specs.Sources.{SameBelow}
+use Rattle.hir_store.specs.Sources.{captures_at, SameBelow}
 use Rattle.hir_store.specs.Store.{Grows}
+use Rattle.hir_store.proofs.Entered.{entered, same_by_entry}
 use Rattle.hir_build.specs.Frame.{Frame}
 use Rattle.hir_build.specs.Origins.{Origin, origin_at, node_origins, origins_in}
 use Rattle.hir_build.specs.Placed.{Placed}
@@ -24,7 +25,7 @@ use Rattle.hir_build.proofs.Origins.{same_functions, same_origins}
 
 module _ {A : Type 0} (limit : ℕ) (slots : List (Option A)) (place : ℕ) (slot : Option A) where
   -- a write at the limit or behind it changes nothing below
-  same_by_write : (old : List (Option A)) → limit ≤ place → SameBelow limit old slots → SameBelow limit old (with_slot slots place slot)
+  same_by_write : (old : List (Option A)) → limit ≤ place → SameBelow limit (slot_at old) (slot_at slots) → SameBelow limit (slot_at old) (slot_at (with_slot slots place slot))
   same_by_write old le was number lt =
       let other : number ≢ place = λ e. omega (arith, e, le, lt) in
       (Updates-with_slot slots (with_slot slots place slot) place slot refl).others number other ∙ was number lt
@@ -113,7 +114,7 @@ module _ (store : ExpressionStore) (code : ExprId) (usages : List (TextRange × 
     older = record {
       sources = grows.older.sources;
       capture_sources = grows.older.capture_sources;
-      captures = same_by_write (length old.exprs) store.format_args_to_captures (place_of code) (Some usages) old.format_args_to_captures le grows.older.captures;
+      captures = same_by_entry code usages (length old.exprs) store.format_args_to_captures old.format_args_to_captures le grows.older.captures;
     };
   }
 
@@ -127,6 +128,10 @@ module _ (store : ExpressionStore) (code : ExprId) (usages : List (TextRange × 
     stands = record { within = was.stands.within; tree = was.stands.tree; whole = was.stands.whole };
     comes = noted_origins (reverse store.exprs) id ∙ was.comes;
   }
+
+-- the code has what was noted
+pub noted_captures : (old new : Frame) (code : ExprId) (usages : List (TextRange × Name)) → Notes old code usages new → captures_at new.store.format_args_to_captures (place_of code) ≡ Some usages
+noted_captures old new code usages notes = ap (λ (frame : Frame). captures_at frame.store.format_args_to_captures (place_of code)) notes ∙ entered code usages old.store.format_args_to_captures
 
 -- a builder that noted the captures of code that it built did build it
 pub builds_noted : {a b c : Frame} {most lets : ℕ} (code : ExprId) (usages : List (TextRange × Name)) → Builds a b most lets → length a.store.exprs ≤ place_of code → Notes b code usages c →

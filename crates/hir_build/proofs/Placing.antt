@@ -20,7 +20,7 @@ use Rattle.hir_build.proofs.Origins.{origins_placed}
 use Rattle.hir_build.proofs.Builds.{builds_grown}
 
 -- a map that holds values below a limit alone holds nothing at it
-none_at : {A : Type 0} (limit : ℕ) (slots : List (Option A)) → HoldsBelow limit slots → slot_at slots limit ≡ None
+none_at : {A : Type 0} (limit : ℕ) (slots : List (Option A)) → HoldsBelow limit (slot_at slots) → slot_at slots limit ≡ None
 none_at {A = A} limit slots held = decide (slot_at slots limit) refl where
   decide : (there : Option A) → slot_at slots limit ≡ there → there ≡ None
   decide None is = refl

@@ -10,6 +10,7 @@ use Rattle.hir_store.specs.declared.ids.ExprId.{ExprId}
 use Rattle.hir_store.specs.declared.source.CaptureSource.{CaptureSource}
 use Rattle.hir_store.specs.declared.store.ExpressionStore.{ExpressionStore}
 use Rattle.hir_store.specs.Unfolding.{place_of}
+use Rattle.hir_store.specs.Sources.{with_entry}
 use Rattle.hir_build.specs.Origins.{Origin, in_file}
 use Rattle.hir_build.specs.Frame.{Frame}
 
@@ -27,7 +28,7 @@ EntersCapture old id source new = new ≡ record old { store = with_capture old.
 
 -- the store in which the code of a call has these captures
 abbrev pub with_captures : ExpressionStore → ExprId → List (TextRange × Name) → ExpressionStore
-with_captures store code usages = record store { format_args_to_captures = with_slot store.format_args_to_captures (place_of code) (Some usages) }
+with_captures store code usages = record store { format_args_to_captures = with_entry store.format_args_to_captures code usages }
 
 -- the code of a call has these captures, and all else is as it was
 abbrev pub Notes : Frame → ExprId → List (TextRange × Name) → Frame → Type 0

@@ -363,14 +363,8 @@ impl Builder {
         ensures err { OnErr result (self.new ≡ self.old) }
         ensures memory { result ≢ Err LowerError.ArenaFull }
     {
-        match self
-            .store
-            .format_args_to_captures
-            .insert(code.idx(), usages)
-        {
-            Ok(_) => Ok(()),
-            Err(_) => Err(LowerError::Memory(AllocError)),
-        }
+        self.store.format_args_to_captures.insert(code, usages)?;
+        Ok(())
     }
 
     // A path of a name with its place in the template.

@@ -2,6 +2,7 @@ pub mod Lists
 pub mod Nodes
 pub mod Unfolds
 pub mod Maps
+pub mod Entered
 pub mod Grown
 pub mod Placing
 pub mod Defined

@@ -8,26 +8,27 @@ use Rattle.sym_core.specs.declared.files.AstPtr.{AstPtr}
 use Rattle.hir_store.specs.declared.ids.ExprId.{ExprId}
 use Rattle.hir_store.specs.declared.store.ExpressionStore.{ExpressionStore}
 use Rattle.hir_store.specs.Unfolding.{place_of}
-use Rattle.hir_store.specs.Sources.{HoldsBelow, SameBelow, NoDanglingKeys, SameAtOlder, SameMaps, EntersSource}
+use Rattle.hir_store.specs.Sources.{captures_at, HoldsBelow, SameBelow, NoDanglingKeys, SameAtOlder, SameMaps, EntersSource}
+
+module _ {A M : Type 0} (at : M → ℕ → Option A) (limit : ℕ) (old new : M) (same : new ≡ old) where
+  -- a map that stays as it was
+  same_below : SameBelow limit (at old) (at new)
+  same_below number lt = ap (λ m. at m number) same
+
+  holds_later : (later : ℕ) → limit ≤ later → HoldsBelow limit (at old) → HoldsBelow later (at new)
+  holds_later later le held number value is = omega (arith, le, held number value (ap (λ m. at m number) (sym same) ∙ is))
 
 module _ {A : Type 0} (limit : ℕ) where
-  same_below : (old new : List (Option A)) → new ≡ old → SameBelow limit old new
-  same_below old new same number lt = ap (λ slots. slot_at slots number) same
-
-  same_below_on : (later : ℕ) (a b c : List (Option A)) → limit ≤ later → SameBelow limit a b → SameBelow later b c → SameBelow limit a c
+  same_below_on : (later : ℕ) (a b c : ℕ → Option A) → limit ≤ later → SameBelow limit a b → SameBelow later b c → SameBelow limit a c
   same_below_on later a b c le first second number lt = second number (omega (arith, le, lt)) ∙ first number lt
 
   -- what is written at the limit changes nothing below it
-  same_below_write : (old new : List (Option A)) (place : ℕ) (slot : Option A) → place ≡ limit → new ≡ with_slot old place slot → SameBelow limit old new
+  same_below_write : (old new : List (Option A)) (place : ℕ) (slot : Option A) → place ≡ limit → new ≡ with_slot old place slot → SameBelow limit (slot_at old) (slot_at new)
   same_below_write old new place slot at is number lt =
       let other : number ≢ place = λ e. omega (arith, e, at, lt) in
       (Updates-with_slot old new place slot is).others number other
 
-  holds_later : (later : ℕ) (old new : List (Option A)) → limit ≤ later → new ≡ old → HoldsBelow limit old → HoldsBelow later new
-  holds_later later old new le same held number value is =
-      omega (arith, le, held number value (ap (λ slots. slot_at slots number) (sym same) ∙ is))
-
-  holds_write : (later : ℕ) (old new : List (Option A)) (place : ℕ) (slot : Option A) → limit ≤ later → place < later → new ≡ with_slot old place slot → HoldsBelow limit old → HoldsBelow later new
+  holds_write : (later : ℕ) (old new : List (Option A)) (place : ℕ) (slot : Option A) → limit ≤ later → place < later → new ≡ with_slot old place slot → HoldsBelow limit (slot_at old) → HoldsBelow later (slot_at new)
   holds_write later old new place slot le lt is held number value there = decide (cases_eq number place) where
     decide : (number ≡ place) ⊎ (number ≢ place) → number < later
     decide (inl same) = omega (arith, same, lt)
@@ -37,16 +38,16 @@ module _ (old new : ExpressionStore) where
   -- maps that stay as they were
   pub same_at_older : SameMaps old new → SameAtOlder old new
   same_at_older maps = record {
-    sources = same_below (length old.exprs) old.expr_map_back new.expr_map_back maps.sources;
-    capture_sources = same_below (length old.exprs) old.implicit_capture_to_source new.implicit_capture_to_source maps.capture_sources;
-    captures = same_below (length old.exprs) old.format_args_to_captures new.format_args_to_captures maps.captures;
+    sources = same_below slot_at (length old.exprs) old.expr_map_back new.expr_map_back maps.sources;
+    capture_sources = same_below slot_at (length old.exprs) old.implicit_capture_to_source new.implicit_capture_to_source maps.capture_sources;
+    captures = same_below captures_at (length old.exprs) old.format_args_to_captures new.format_args_to_captures maps.captures;
   }
 
   pub maps_still : SameMaps old new → length old.exprs ≤ length new.exprs → NoDanglingKeys old → NoDanglingKeys new
   maps_still maps le held = record {
-    sources = holds_later (length old.exprs) (length new.exprs) old.expr_map_back new.expr_map_back le maps.sources held.sources;
-    capture_sources = holds_later (length old.exprs) (length new.exprs) old.implicit_capture_to_source new.implicit_capture_to_source le maps.capture_sources held.capture_sources;
-    captures = holds_later (length old.exprs) (length new.exprs) old.format_args_to_captures new.format_args_to_captures le maps.captures held.captures;
+    sources = holds_later slot_at (length old.exprs) old.expr_map_back new.expr_map_back maps.sources (length new.exprs) le held.sources;
+    capture_sources = holds_later slot_at (length old.exprs) old.implicit_capture_to_source new.implicit_capture_to_source maps.capture_sources (length new.exprs) le held.capture_sources;
+    captures = holds_later captures_at (length old.exprs) old.format_args_to_captures new.format_args_to_captures maps.captures (length new.exprs) le held.captures;
   }
 
   module _ (id : ExprId) (ptr : InFile AstPtr) (enters : EntersSource old id ptr new) where
@@ -54,15 +55,15 @@ module _ (old new : ExpressionStore) where
     pub older_with_source : place_of id ≡ length old.exprs → SameAtOlder old new
     older_with_source at = record {
       sources = same_below_write (length old.exprs) old.expr_map_back new.expr_map_back (place_of id) (Some ptr) at enters.sources;
-      capture_sources = same_below (length old.exprs) old.implicit_capture_to_source new.implicit_capture_to_source enters.capture_sources;
-      captures = same_below (length old.exprs) old.format_args_to_captures new.format_args_to_captures enters.captures;
+      capture_sources = same_below slot_at (length old.exprs) old.implicit_capture_to_source new.implicit_capture_to_source enters.capture_sources;
+      captures = same_below captures_at (length old.exprs) old.format_args_to_captures new.format_args_to_captures enters.captures;
     }
 
     pub maps_with_source : length old.exprs ≤ length new.exprs → place_of id < length new.exprs → NoDanglingKeys old → NoDanglingKeys new
     maps_with_source le lt held = record {
       sources = holds_write (length old.exprs) (length new.exprs) old.expr_map_back new.expr_map_back (place_of id) (Some ptr) le lt enters.sources held.sources;
-      capture_sources = holds_later (length old.exprs) (length new.exprs) old.implicit_capture_to_source new.implicit_capture_to_source le enters.capture_sources held.capture_sources;
-      captures = holds_later (length old.exprs) (length new.exprs) old.format_args_to_captures new.format_args_to_captures le enters.captures held.captures;
+      capture_sources = holds_later slot_at (length old.exprs) old.implicit_capture_to_source new.implicit_capture_to_source enters.capture_sources (length new.exprs) le held.capture_sources;
+      captures = holds_later captures_at (length old.exprs) old.format_args_to_captures new.format_args_to_captures enters.captures (length new.exprs) le held.captures;
     }
 
 pub older_self : (store : ExpressionStore) → SameAtOlder store store
@@ -70,7 +71,7 @@ older_self store = same_at_older store store (record { sources = refl; capture_s
 
 pub older_on : (a b c : ExpressionStore) → length a.exprs ≤ length b.exprs → SameAtOlder a b → SameAtOlder b c → SameAtOlder a c
 older_on a b c le first second = record {
-  sources = same_below_on (length a.exprs) (length b.exprs) a.expr_map_back b.expr_map_back c.expr_map_back le first.sources second.sources;
-  capture_sources = same_below_on (length a.exprs) (length b.exprs) a.implicit_capture_to_source b.implicit_capture_to_source c.implicit_capture_to_source le first.capture_sources second.capture_sources;
-  captures = same_below_on (length a.exprs) (length b.exprs) a.format_args_to_captures b.format_args_to_captures c.format_args_to_captures le first.captures second.captures;
+  sources = same_below_on (length a.exprs) (length b.exprs) (slot_at a.expr_map_back) (slot_at b.expr_map_back) (slot_at c.expr_map_back) le first.sources second.sources;
+  capture_sources = same_below_on (length a.exprs) (length b.exprs) (slot_at a.implicit_capture_to_source) (slot_at b.implicit_capture_to_source) (slot_at c.implicit_capture_to_source) le first.capture_sources second.capture_sources;
+  captures = same_below_on (length a.exprs) (length b.exprs) (captures_at a.format_args_to_captures) (captures_at b.format_args_to_captures) (captures_at c.format_args_to_captures) le first.captures second.captures;
 }

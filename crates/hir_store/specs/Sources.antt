@@ -1,32 +1,52 @@
 -- What the maps of a store hold: where expressions come from in the source, and what format calls capture.
-use Rattle.std.specs.Prelude.{◌≡◌, ℕ, ◌<◌, List, length, Option, Some}
+use Rattle.std.specs.Prelude.{◌≡◌, ℕ, ◌<◌, Bool, List, length, nat_eq, Option, Some}
+use Rattle.std.specs.Map.{lookup}
+use Rattle.indexmap.specs.IndexMap.{insert_entry}
 use Rattle.la_arena.specs.Map.{slot_at, with_slot}
 use Rattle.sym_core.specs.declared.files.InFile.{InFile}
 use Rattle.sym_core.specs.declared.files.AstPtr.{AstPtr}
+use Rattle.sym_core.specs.declared.name.Name.{Name}
+use Rattle.sym_core.specs.declared.text_range.TextRange.{TextRange}
 use Rattle.hir_store.specs.declared.ids.ExprId.{ExprId}
 use Rattle.hir_store.specs.declared.store.ExpressionStore.{ExpressionStore}
 use Rattle.hir_store.specs.Unfolding.{place_of}
 
+-- what format calls capture: for each call that has an entry, its code with what it captures
+abbrev pub CaptureEntries : Type 0
+CaptureEntries = List (ExprId × List (TextRange × Name))
+
+-- whether an expression has this number
+abbrev pub has_number : ℕ → ExprId → Bool
+has_number number id = nat_eq number (place_of id)
+
+-- what the entries have at a number
+abbrev pub captures_at : CaptureEntries → ℕ → Option (List (TextRange × Name))
+captures_at entries number = lookup (has_number number) entries
+
+-- the entries with one for this code: it takes the place of an earlier one for the same code, or goes last
+abbrev pub with_entry : CaptureEntries → ExprId → List (TextRange × Name) → CaptureEntries
+with_entry entries code usages = insert_entry (λ id other. has_number (place_of id) other) entries code usages
+
 module _ {A : Type 0} (limit : ℕ) where
-  -- a map holds values below the limit alone
-  abbrev pub HoldsBelow : List (Option A) → Type 0
-  HoldsBelow slots = (number : ℕ) (value : A) → slot_at slots number ≡ Some value → number < limit
+  -- a map, as what it has at each number, holds values below the limit alone
+  abbrev pub HoldsBelow : (ℕ → Option A) → Type 0
+  HoldsBelow held = (number : ℕ) (value : A) → held number ≡ Some value → number < limit
 
   -- a map has below the limit what it had
-  abbrev pub SameBelow : List (Option A) → List (Option A) → Type 0
-  SameBelow old new = (number : ℕ) → number < limit → slot_at new number ≡ slot_at old number
+  abbrev pub SameBelow : (ℕ → Option A) → (ℕ → Option A) → Type 0
+  SameBelow old new = (number : ℕ) → number < limit → new number ≡ old number
 
 -- each map holds values at expressions of the store alone
 pub record NoDanglingKeys (store : ExpressionStore) : Type 0 where
-  pub sources : HoldsBelow (length store.exprs) store.expr_map_back
-  pub capture_sources : HoldsBelow (length store.exprs) store.implicit_capture_to_source
-  pub captures : HoldsBelow (length store.exprs) store.format_args_to_captures
+  pub sources : HoldsBelow (length store.exprs) (slot_at store.expr_map_back)
+  pub capture_sources : HoldsBelow (length store.exprs) (slot_at store.implicit_capture_to_source)
+  pub captures : HoldsBelow (length store.exprs) (captures_at store.format_args_to_captures)
 
 -- each map has at older expressions what it had
 pub record SameAtOlder (old new : ExpressionStore) : Type 0 where
-  pub sources : SameBelow (length old.exprs) old.expr_map_back new.expr_map_back
-  pub capture_sources : SameBelow (length old.exprs) old.implicit_capture_to_source new.implicit_capture_to_source
-  pub captures : SameBelow (length old.exprs) old.format_args_to_captures new.format_args_to_captures
+  pub sources : SameBelow (length old.exprs) (slot_at old.expr_map_back) (slot_at new.expr_map_back)
+  pub capture_sources : SameBelow (length old.exprs) (slot_at old.implicit_capture_to_source) (slot_at new.implicit_capture_to_source)
+  pub captures : SameBelow (length old.exprs) (captures_at old.format_args_to_captures) (captures_at new.format_args_to_captures)
 
 -- each map is as it was
 pub record SameMaps (old new : ExpressionStore) : Type 0 where

@@ -2,6 +2,7 @@
 //! An index of the store unfolds to a tree, in which every part stands before the whole.
 #![tactic(auto)]
 
+mod capture_map;
 mod expr;
 mod ids;
 mod lang_item;
@@ -9,6 +10,7 @@ mod pat;
 mod source;
 mod store;
 
+pub use capture_map::CaptureMap;
 pub use expr::{Expr, Literal, Statement};
 pub use ids::{BindingId, ExprId, PatId};
 pub use lang_item::{LangFn, LangItem, LangItems};

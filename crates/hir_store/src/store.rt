@@ -1,10 +1,9 @@
 ghost use Rattle.std.specs.Prelude.{◌≡◌, ◌↔◌, ◌<◌, ◌⊎◌, [], Some, None, length, IsTrue, IfOk, OnErr};
 
-use crate::{Binding, BindingId, CaptureSource, Expr, ExprId, Pat, PatId};
+use crate::{Binding, BindingId, CaptureMap, CaptureSource, Expr, ExprId, Pat, PatId};
 use la_arena::{Arena, ArenaError, ArenaMap, Idx};
-use sqlite_items::Items;
 use std::alloc::{AllocError, Global};
-use sym_core::{AstPtr, InFile, Name, TextRange};
+use sym_core::{AstPtr, InFile, Name};
 
 /// The expressions, patterns and bindings of a body, and where they come from in the source.
 ///
@@ -32,7 +31,7 @@ pub struct ExpressionStore {
     /// For each expression that a format call captures, where the call names it.
     pub implicit_capture_to_source: ArenaMap<Idx<Expr>, InFile<CaptureSource>>,
     /// For each format call, the ranges of its literal that name a captured variable, with the names.
-    pub format_args_to_captures: ArenaMap<Idx<Expr>, Items<(TextRange, Name)>>,
+    pub format_args_to_captures: CaptureMap,
 }
 
 impl ExpressionStore {
@@ -54,7 +53,7 @@ impl ExpressionStore {
             bindings: Arena::new(alloc),
             expr_map_back: ArenaMap::new(alloc),
             implicit_capture_to_source: ArenaMap::new(alloc),
-            format_args_to_captures: ArenaMap::new(alloc),
+            format_args_to_captures: CaptureMap::new(alloc),
         }
     }
 

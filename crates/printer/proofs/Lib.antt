@@ -1,4 +1,3 @@
 pub mod Sizes
 pub mod Reading
 pub mod Commas
-pub mod Noted

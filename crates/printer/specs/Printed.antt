@@ -2,7 +2,6 @@
 use Rattle.std.specs.Prelude.{ℕ, ◌+◌, ◌/◌, ◌%◌, Bool, true, false, List, [], ◌∷◌, ◌++◌, codes, Option, Some, None}
 use Rattle.std.specs.Fmt.{decimal, digit_glyph}
 use Rattle.std.specs.List.{flat_map}
-use Rattle.la_arena.specs.Map.{slot_at}
 use Rattle.sym_core.specs.declared.name.Name.{Name}
 use Rattle.sym_core.specs.declared.text_range.TextRange.{TextRange}
 use Rattle.sym_core.specs.Name.{name_text}
@@ -14,6 +13,7 @@ use Rattle.hir_store.specs.declared.ids.ExprId.{ExprId}
 use Rattle.hir_store.specs.declared.store.ExpressionStore.{ExpressionStore}
 use Rattle.hir_store.specs.Tree.{Tree, Trees, Steps, Bad, Missing, Leaf, Path, LangPath, Text, Bytes, Ref, Tuple, Field, Array, Call, Block, Empty, More, End, Tail, Let, Nameless, Do}
 use Rattle.hir_store.specs.Unfolding.{place_of, tree_at}
+use Rattle.hir_store.specs.Sources.{captures_at}
 use Rattle.hir_lower.specs.declared.outcome.Outcome.{Outcome}
 use Rattle.hir_lower.specs.declared.outcome.Outcome.TheVariants.{Off, Code}
 
@@ -115,7 +115,7 @@ use_lines number None = []
 
 -- the line of the code of the call with this number, and a line for each usage that the store has at the code
 abbrev pub code_lines : ExpressionStore → ℕ → ExprId → List ℕ
-code_lines store number id = decimal number ++ codes " code " ++ text_of (tree_at store id) ++ codes "\n" ++ use_lines number (slot_at store.format_args_to_captures (place_of id))
+code_lines store number id = decimal number ++ codes " code " ++ text_of (tree_at store id) ++ codes "\n" ++ use_lines number (captures_at store.format_args_to_captures (place_of id))
 
 -- the lines of the call with this number: the number and `off`, or those of its code
 abbrev pub outcome_lines : ExpressionStore → ℕ → Outcome → List ℕ

@@ -73,7 +73,7 @@ fn push_code(
     write!(out, "{number} code ")?;
     push_expr(out, store, id)?;
     out.push_str("\n")?;
-    match store.format_args_to_captures.get(id.idx()) {
+    match store.format_args_to_captures.get(id) {
         Some(usages) => push_use_lines(out, number, usages.as_slice()),
         None => Ok(()),
     }

@@ -109,7 +109,6 @@ fn lang(
 }
 
 // Notes the usages of a call at its code.
-#[tactic(auto, using(crate::proofs::Noted::no_dangling_noted))]
 fn note_usages(
     store: &mut ExpressionStore,
     code: ExprId,
@@ -119,10 +118,8 @@ fn note_usages(
     requires within { place_of code < length store.old.exprs }
     ensures { OnOk result (NoDanglingIds store.new) }
 {
-    match store.format_args_to_captures.insert(code.idx(), usages) {
-        Ok(_) => Ok(()),
-        Err(_) => Err(AllocError),
-    }
+    store.format_args_to_captures.insert(code, usages)?;
+    Ok(())
 }
 
 #[test]

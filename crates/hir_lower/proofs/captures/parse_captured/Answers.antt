@@ -5,6 +5,9 @@ use Rattle.hir_lower.specs.Captures.{made_count}
 use Rattle.hir_lower.proofs.Counts.{builds_some, outgrows_some, builds_nothing}
 use Rattle.hir_lower.proofs.captures.parse_captured.Goals as goal
 
+pub returns-in_err-fmt-clause-builds : goal.returns-in_err-fmt-clause-builds
+returns-in_err-fmt-clause-builds c = builds_nothing _ _ _
+
 pub returns-in_err-usages-clause-builds : goal.returns-in_err-usages-clause-builds
 returns-in_err-usages-clause-builds c = builds_nothing _ _ _
 
