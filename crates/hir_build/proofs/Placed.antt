@@ -156,7 +156,7 @@ module _ (store : ExpressionStore) where
     pub block_made : (ss : List Statement) (tail : ExprId) (is_unsafe : Bool) (steps : Steps) (os : List Origin) → StepsPlaced store ss tail steps os →
         Placed new id (Block is_unsafe (steps_of (name_in store) (tree_at store) ss (Some tail))) (own ∷ steps_origins (origins_at store) ss (Some tail)) → Placed new id (Block is_unsafe steps) (own ∷ os)
     block_made ss tail is_unsafe steps os all was =
-        placed_as new id _ (Block is_unsafe steps) _ (own ∷ os) (made store (expr.Block ss (Some tail) is_unsafe) (Block is_unsafe steps) (refl, all.make)).tree (ap (λ l. own ∷ l) all.come) was
+        placed_as new id _ (Block is_unsafe steps) _ (own ∷ os) (made store (expr.Block (Some tail) is_unsafe ss) (Block is_unsafe steps) (refl, all.make)).tree (ap (λ l. own ∷ l) all.come) was
 
   -- a `let` of a value that is placed
   pub let_made : (new : ExpressionStore) (s : Statement) (name : Name) (value : ExprId) (t : Tree) (os : List Origin) → Placed store value t os →

@@ -84,7 +84,7 @@ module _ (store : ExpressionStore) (sound : NoDanglingIds store) where
   whole_over (expr.Field id name) within = sound.whole id within
   whole_over (expr.Array ids) within = whole_row ids within
   whole_over (expr.Call callee args) within = and_from (is_whole (tree_at store callee)) (all_whole (trees_of (tree_at store) args)) (sound.whole callee within.0) (whole_row args within.1)
-  whole_over (expr.Block ss last is_unsafe) within = whole_steps ss last within.0 within.1
+  whole_over (expr.Block last is_unsafe ss) within = whole_steps ss last within.0 within.1
 
 -- Rows
 

@@ -63,7 +63,7 @@ node_origins origins_of (expr.Tuple ids) = all_origins origins_of ids
 node_origins origins_of (expr.Field id name) = origins_of id
 node_origins origins_of (expr.Array ids) = all_origins origins_of ids
 node_origins origins_of (expr.Call callee args) = origins_of callee ++ all_origins origins_of args
-node_origins origins_of (expr.Block statements last is_unsafe) = steps_origins origins_of statements last
+node_origins origins_of (expr.Block last is_unsafe statements) = steps_origins origins_of statements last
 
 -- the origins of an index in a list of expressions, the newest first: its own in front of those of its parts
 abbrev pub origins_in : ExpressionStore → List Expr → ExprId → List Origin

@@ -51,7 +51,7 @@ StatementsIn store (s ∷ statements) = StatementIn store s × StatementsIn stor
 
 -- the ids that an expression names are in the store
 abbrev pub PartsIn : ExpressionStore → Expr → Type 0
-PartsIn store (expr.Block statements last is_unsafe) = StatementsIn store statements × TailBelow (length store.exprs) last
+PartsIn store (expr.Block last is_unsafe statements) = StatementsIn store statements × TailBelow (length store.exprs) last
 PartsIn store e = PartsBelow (length store.exprs) e
 
 -- a reference to each of these trees

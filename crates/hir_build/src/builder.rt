@@ -12,10 +12,10 @@ ghost use Rattle.hir_build.specs.Captures.{capture_origin, EntersCapture, Notes}
 
 use crate::LowerError;
 use hir_store::{
-    CaptureSource, Expr, ExprId, ExpressionStore, LangFn, LangItem, LangItems, Literal, Pat,
-    Statement,
+    CaptureSource, Expr, ExprId, ExprIds, ExpressionStore, LangFn, LangItem, LangItems, Literal,
+    Pat, Statement,
 };
-use sqlite_items::Items;
+use sqlite_items::{Boxed, Items};
 use std::alloc::{AllocError, Global};
 use std::marker::Model;
 use sym_core::{AstPtr, HirFileId, InFile, Name, TextRange};
@@ -37,6 +37,7 @@ use sym_core::{AstPtr, HirFileId, InFile, Name, TextRange};
 /// for those that the call places, and `Memory` may come from each call that places something.
 #[derive(Debug, Drop)]
 pub struct Builder {
+    alloc: Global,
     store: ExpressionStore,
     // How many fresh names have a binding.
     fresh: u32,
@@ -63,6 +64,7 @@ impl Builder {
         ensures items { result.items ≡ items }
     {
         Builder {
+            alloc,
             store: ExpressionStore::new(alloc),
             fresh: 0,
             file,
@@ -201,7 +203,7 @@ impl Builder {
     }
 
     /// Places a tuple, `(first, second)`.
-    pub fn tuple(&mut self, parts: Items<ExprId>) -> Result<ExprId, LowerError>
+    pub fn tuple(&mut self, parts: ExprIds) -> Result<ExprId, LowerError>
         requires within { AllBelow (length self.old.store.exprs) parts }
         ensures placed { IfOk result (λ made. Placed self.new.store made (Tuple (trees_of (tree_at self.old.store) parts)) (bare ∷ all_origins (origins_at self.old.store) parts)) }
         ensures later { IfOk result (λ made. length self.old.store.exprs ≤ place_of made) }
@@ -214,7 +216,7 @@ impl Builder {
     }
 
     /// Places an array of its elements, `[first, second]`.
-    pub fn array(&mut self, parts: Items<ExprId>) -> Result<ExprId, LowerError>
+    pub fn array(&mut self, parts: ExprIds) -> Result<ExprId, LowerError>
         requires within { AllBelow (length self.old.store.exprs) parts }
         ensures placed { IfOk result (λ made. Placed self.new.store made (Array (trees_of (tree_at self.old.store) parts)) (bare ∷ all_origins (origins_at self.old.store) parts)) }
         ensures later { IfOk result (λ made. length self.old.store.exprs ≤ place_of made) }
@@ -230,7 +232,7 @@ impl Builder {
     pub fn call(
         &mut self,
         callee: ExprId,
-        args: Items<ExprId>,
+        args: ExprIds,
         ptr: Option<AstPtr>,
     ) -> Result<ExprId, LowerError>
         requires within { place_of callee < length self.old.store.exprs }
@@ -268,10 +270,11 @@ impl Builder {
         ensures longer { length self.old.store.exprs ≤ length self.new.store.exprs }
         ensures full { result ≡ Err LowerError.ArenaFull → Outgrows self.old.store 1 0 }
     {
+        let statements = Boxed::new(self.alloc, statements)?;
         let expr = Expr::Block {
-            statements,
             tail: Some(tail),
             is_unsafe,
+            statements,
         };
         self.place(expr, ptr)
     }
@@ -281,7 +284,7 @@ impl Builder {
     /// # Errors
     ///
     /// The references that were placed before a refusal stay.
-    pub fn references(&mut self, alloc: Global, ids: &[ExprId]) -> Result<Items<ExprId>, LowerError>
+    pub fn references(&mut self, alloc: Global, ids: &[ExprId]) -> Result<ExprIds, LowerError>
         requires within { AllBelow (length self.old.store.exprs) ids.now }
         ensures placed { IfOk result (λ made. AllPlaced self.new.store made (reference_trees (tree_at self.old.store) ids.now) (reference_origins (origins_at self.old.store) ids.now)) }
         ensures within { IfOk result (λ made. AllBelow (length self.new.store.exprs) made) }
@@ -294,7 +297,7 @@ impl Builder {
             let reference = self.reference(*id)?;
             references.push(reference)?;
         }
-        Ok(Items::from_vec(references))
+        Ok(ExprIds::from_slice(alloc, references.as_slice())?)
     }
 
     /// Places a pattern and a binding of a fresh name, and returns `let #number = initializer;`.

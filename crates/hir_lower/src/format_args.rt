@@ -19,8 +19,8 @@ ghost use Rattle.hir_lower.specs.FormatParts.{call_origin, tree_behind, origins_
 
 use hir_build::{Builder, LowerError};
 use hir_fmt::{FormatArgs, FormatArgsPiece, FormatArgument, FormatTrait};
-use hir_store::{ExprId, LangFn, LangItem, Literal, Statement};
-use sqlite_items::Items;
+use hir_store::{ExprId, ExprIds, LangFn, LangItem, Literal, Statement};
+use sqlite_items::{Boxed, Items};
 use std::alloc::{AllocError, Global};
 use sym_core::{AstPtr, Name, Symbol};
 use template_bytes::{EncodeError, EncodedTemplate, Pair, Usage, encode};
@@ -152,7 +152,7 @@ fn build_from_str(builder: &mut Builder, site: Site, text: Symbol) -> Result<Exp
 {
     let from_str = builder.callee(LangItem::FormatArguments, LangFn::FromStr, None)?;
     let text = builder.literal(Literal::String(text), None)?;
-    let args = Items::from_slice(site.alloc, &[text])?;
+    let args = ExprIds::from_slice(site.alloc, &[text])?;
     builder.call(from_str, args, Some(site.ptr))
 }
 
@@ -211,7 +211,7 @@ fn build_without_arguments(
     ensures full { result ≡ Err LowerError.ArenaFull → Outgrows builder.old.store 7 0 }
 {
     // `[]`
-    let list = builder.array(Items::new(site.alloc))?;
+    let list = builder.array(ExprIds::new())?;
     // `unsafe { Arguments::new(BYTES, &[]) }`
     let new = build_new(builder, site, bytes, list)?;
     // `{ ORPHAN; .. unsafe { Arguments::new(BYTES, &[]) } }`
@@ -319,7 +319,7 @@ fn build_elements(
     number: u32,
     args: &[FormatArgument],
     pairs: &[Pair],
-) -> Result<Items<ExprId>, LowerError>
+) -> Result<ExprIds, LowerError>
     ensures placed { IfOk result (λ made. AllPlaced builder.new.store made (elements builder.old.items number (shown_pairs pairs.now)) (elements_origins builder.old.file builder.old.items (syntaxes_of args.now) (shown_pairs pairs.now))) }
     ensures builds { Builds builder.old builder.new (4 * length pairs.now) 0 }
     ensures full { result ≡ Err LowerError.ArenaFull → Outgrows builder.old.store (4 * length pairs.now) 0 }
@@ -330,7 +330,7 @@ fn build_elements(
         let element = build_element(builder, alloc, number, *pair, syntax)?;
         elements.push(element)?;
     }
-    Ok(Items::from_vec(elements))
+    Ok(ExprIds::from_slice(alloc, elements.as_slice())?)
 }
 
 // Builds `Argument::FUNCTION(#n.PLACE)`. Trait errors of the argument show at the function, so it stands where the argument does.
@@ -350,7 +350,7 @@ fn build_element(
     // `Argument::FUNCTION(#n.PLACE)`
     let function = function_of(pair.usage);
     let callee = builder.callee(LangItem::FormatArgument, function, syntax)?;
-    let args = Items::from_slice(alloc, &[field])?;
+    let args = ExprIds::from_slice(alloc, &[field])?;
     builder.call(callee, args, None)
 }
 
@@ -447,10 +447,11 @@ fn build_new_call(
     ensures builds { Builds builder.old builder.new 4 0 }
     ensures full { result ≡ Err LowerError.ArenaFull → Outgrows builder.old.store 4 0 }
 {
+    let bytes = Boxed::new(alloc, bytes)?;
     let template = builder.literal(Literal::ByteString(bytes), None)?;
     let new = builder.callee(LangItem::FormatArguments, LangFn::New, None)?;
     let reference = builder.reference(list)?;
-    let args = Items::from_slice(alloc, &[template, reference])?;
+    let args = ExprIds::from_slice(alloc, &[template, reference])?;
     builder.call(new, args, None)
 }
 

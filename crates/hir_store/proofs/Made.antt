@@ -70,7 +70,7 @@ module _ (store : ExpressionStore) where
     tree = ap₂ Call is.0.tree (trees_of_all store args ts is.1);
     whole = and_from (is_whole t) (all_whole ts) is.0.whole (whole_of_all store args ts is.1);
   }
-  made (expr.Block statements last is_unsafe) (Block b steps) is =
+  made (expr.Block last is_unsafe statements) (Block b steps) is =
       let parts = steps_made statements last steps is.1 in
       record { tree = ap₂ Block (sym is.0) parts.are; whole = parts.whole }
   made (expr.Ref id) t is = absurd is
@@ -78,7 +78,7 @@ module _ (store : ExpressionStore) where
   made (expr.Field id name) t is = absurd is
   made (expr.Array ids) t is = absurd is
   made (expr.Call callee args) t is = absurd is
-  made (expr.Block statements last is_unsafe) t is = absurd is
+  made (expr.Block last is_unsafe statements) t is = absurd is
 
 -- a placed expression stands for the tree that it makes
 pub stands_made : (old new : ExpressionStore) (e : Expr) (id : ExprId) (t : Tree) → PlacesExpr old e id new → Makes old e t → Stands new id t

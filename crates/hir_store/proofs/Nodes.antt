@@ -67,7 +67,7 @@ module _ (names later : PatId → Option Name) (names_kept : KeepsNames names la
   same_node (expr.Call callee args) whole =
       let both = and_parts (is_whole (old callee)) (all_whole (trees_of old args)) whole in
       ap₂ Call (trees_kept callee both.0) (same_trees args both.1)
-  same_node (expr.Block statements last is_unsafe) whole = ap (Block is_unsafe) (same_steps statements last whole)
+  same_node (expr.Block last is_unsafe statements) whole = ap (Block is_unsafe) (same_steps statements last whole)
 
 module _ (limit : ℕ) (names : PatId → Option Name) (tree_of : ExprId → Tree) (below : WholeBelow limit tree_of) where
   all_below : (ids : List ExprId) → IsTrue (all_whole (trees_of tree_of ids)) → AllBelow limit ids
@@ -100,4 +100,4 @@ module _ (limit : ℕ) (names : PatId → Option Name) (tree_of : ExprId → Tre
   node_below (expr.Call callee args) whole =
       let both = and_parts (is_whole (tree_of callee)) (all_whole (trees_of tree_of args)) whole in
       (below callee both.0, all_below args both.1)
-  node_below (expr.Block statements last is_unsafe) whole = steps_below statements last whole
+  node_below (expr.Block last is_unsafe statements) whole = steps_below statements last whole

@@ -1,3 +1,4 @@
+pub mod Row
 pub mod Tree
 pub mod Unfolding
 pub mod PartsBelow

@@ -35,5 +35,5 @@ Makes store (expr.Tuple ids) (Tuple ts) = AllStand store ids ts
 Makes store (expr.Field id name) (Field t field) = Stands store id t × (field ≡ name)
 Makes store (expr.Array ids) (Array ts) = AllStand store ids ts
 Makes store (expr.Call callee args) (Call t ts) = Stands store callee t × AllStand store args ts
-Makes store (expr.Block statements last is_unsafe) (Block b steps) = (b ≡ is_unsafe) × StepsMake store statements last steps
+Makes store (expr.Block last is_unsafe statements) (Block b steps) = (b ≡ is_unsafe) × StepsMake store statements last steps
 Makes store e t = ⊥

@@ -35,4 +35,4 @@ PartsBelow limit (expr.Tuple ids) = AllBelow limit ids
 PartsBelow limit (expr.Field id name) = place_of id < limit
 PartsBelow limit (expr.Array ids) = AllBelow limit ids
 PartsBelow limit (expr.Call callee args) = (place_of callee < limit) × AllBelow limit args
-PartsBelow limit (expr.Block statements last is_unsafe) = StepsBelow limit statements last
+PartsBelow limit (expr.Block last is_unsafe statements) = StepsBelow limit statements last

@@ -72,7 +72,7 @@ node names tree_of (expr.Tuple ids) = Tuple (trees_of tree_of ids)
 node names tree_of (expr.Field id name) = Field (tree_of id) name
 node names tree_of (expr.Array ids) = Array (trees_of tree_of ids)
 node names tree_of (expr.Call callee args) = Call (tree_of callee) (trees_of tree_of args)
-node names tree_of (expr.Block statements last is_unsafe) = Block is_unsafe (steps_of names tree_of statements last)
+node names tree_of (expr.Block last is_unsafe statements) = Block is_unsafe (steps_of names tree_of statements last)
 
 -- the tree of an index in a list of expressions, the newest first
 abbrev pub tree_in : (PatId → Option Name) → List Expr → ExprId → Tree

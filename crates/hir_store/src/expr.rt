@@ -1,8 +1,12 @@
-use crate::{ExprId, LangFn, LangItem, PatId};
-use sqlite_items::Items;
+use crate::{ExprId, ExprIds, LangFn, LangItem, PatId};
+use sqlite_items::{Boxed, Items};
+use std::mem::size_of;
 use sym_core::{Name, Symbol};
 
 /// A lowered expression. Its parts are named by their places in the same store.
+///
+/// A store holds many, so an expression takes 24 bytes: short rows of parts stand in it, and all that is longer is behind
+/// a pointer.
 #[derive(Debug, Drop)]
 pub enum Expr {
     /// What an absent expression is lowered to.
@@ -18,7 +22,7 @@ pub enum Expr {
     /// A shared reference, `&expr`.
     Ref(ExprId),
     /// A tuple, `(first, second)`.
-    Tuple(Items<ExprId>),
+    Tuple(ExprIds),
     /// A field, `expr.name`.
     Field {
         /// The value that has the field.
@@ -27,24 +31,26 @@ pub enum Expr {
         name: Name,
     },
     /// An array of its elements, `[first, second]`.
-    Array(Items<ExprId>),
+    Array(ExprIds),
     /// A call, `callee(args)`.
     Call {
         /// What is called.
         callee: ExprId,
         /// The arguments, in their order.
-        args: Items<ExprId>,
+        args: ExprIds,
     },
     /// A block, `{ statements tail }`.
     Block {
-        /// The statements, in their order.
-        statements: Items<Statement>,
         /// The expression whose value the block has, where it has one.
         tail: Option<ExprId>,
         /// Whether the block is `unsafe`.
         is_unsafe: bool,
+        /// The statements, in their order.
+        statements: Boxed<Items<Statement>>,
     },
 }
+
+const _: () = prove!(size_of::<Expr>() == 24);
 
 /// A literal that lowering itself makes.
 #[derive(Debug, Drop)]
@@ -52,7 +58,7 @@ pub enum Literal {
     /// A string, `"text"`.
     String(Symbol),
     /// A byte string, `b"bytes"`.
-    ByteString(Items<u8>),
+    ByteString(Boxed<Items<u8>>),
 }
 
 /// A statement of a block.

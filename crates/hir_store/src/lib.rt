@@ -4,14 +4,17 @@
 
 mod capture_map;
 mod expr;
+mod expr_ids;
 mod ids;
 mod lang_item;
 mod pat;
+mod row;
 mod source;
 mod store;
 
 pub use capture_map::CaptureMap;
 pub use expr::{Expr, Literal, Statement};
+pub use expr_ids::ExprIds;
 pub use ids::{BindingId, ExprId, PatId};
 pub use lang_item::{LangFn, LangItem, LangItems};
 pub use pat::{Binding, Pat};

@@ -57,7 +57,7 @@ fn push_node(out: &mut String, store: &ExpressionStore, expr: &Expr) -> Result<(
             statements,
             tail,
             is_unsafe,
-        } => push_block(out, store, statements.as_slice(), *tail, *is_unsafe),
+        } => push_block(out, store, statements.get().as_slice(), *tail, *is_unsafe),
     }
 }
 

@@ -47,7 +47,7 @@ pub fn push_literal(out: &mut String, literal: &Literal) -> Result<(), AllocErro
         }
         Literal::ByteString(bytes) => {
             out.push_str("b\"")?;
-            push_quoted(out, bytes.as_slice())
+            push_quoted(out, bytes.get().as_slice())
         }
     }
 }

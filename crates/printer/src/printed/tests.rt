@@ -1,13 +1,13 @@
 // Stores that are filled by hand, and what is printed of them. Each expression is tested for parts that stand as it is placed.
-ghost use Rattle.std.specs.Prelude.{◌<◌, length, IsTrue, OnOk, is_some};
+ghost use Rattle.std.specs.Prelude.{◌≡◌, ◌<◌, length, IsTrue, IfOk, OnOk, is_some};
 ghost use Rattle.hir_store.specs.Tree.{is_whole, all_whole, steps_whole};
 ghost use Rattle.hir_store.specs.Unfolding.{place_of, tree_at, tree_over, trees_of, steps_of, tail_step, name_in};
 ghost use Rattle.hir_store.specs.Store.{NoDanglingIds};
 
 use super::*;
-use hir_store::{Expr, ExprId, LangFn, LangItem, Literal, Pat, PatId, Statement};
+use hir_store::{Expr, ExprId, ExprIds, LangFn, LangItem, Literal, Pat, PatId, Statement};
 use la_arena::ArenaError;
-use sqlite_items::Items;
+use sqlite_items::{Boxed, Items};
 use std::process::Abort;
 use std::test::Fail;
 use sym_core::{Name, Symbol, TextRange};
@@ -76,7 +76,7 @@ fn parts_stand(store: &ExpressionStore, expr: &Expr) -> bool
             statements,
             tail,
             ..
-        } => steps_stand(store, statements.as_slice(), *tail),
+        } => steps_stand(store, statements.get().as_slice(), *tail),
     }
 }
 
@@ -138,7 +138,7 @@ fn prints_a_text(rt: HostRuntime) -> Result<(), Fail> {
     let callee = lang(&rt, &mut store, LangItem::FormatArguments, LangFn::FromStr)?;
     let text = Symbol::new(rt.alloc(), "hi")?;
     let text = place(&rt, &mut store, Expr::Literal(Literal::String(text)))?;
-    let args = Items::from_slice(rt.alloc(), &[text])?;
+    let args = ExprIds::from_slice(rt.alloc(), &[text])?;
     let call = place(&rt, &mut store, Expr::Call { callee, args })?;
     assert!(rt; stands(&store, call));
     let printed = print_outcomes(rt.alloc(), &store, &[Outcome::Code(call)])?;
@@ -153,9 +153,9 @@ fn prints_a_text(rt: HostRuntime) -> Result<(), Fail> {
 fn prints_tuples(rt: HostRuntime) -> Result<(), Fail> {
     let alloc = rt.alloc();
     let mut store = ExpressionStore::new(alloc);
-    let unit = place(&rt, &mut store, Expr::Tuple(Items::new(alloc)))?;
+    let unit = place(&rt, &mut store, Expr::Tuple(ExprIds::new()))?;
     let leaf = place(&rt, &mut store, Expr::Leaf(4_294_967_295))?;
-    let single = Items::from_slice(alloc, &[leaf])?;
+    let single = ExprIds::from_slice(alloc, &[leaf])?;
     let single = place(&rt, &mut store, Expr::Tuple(single))?;
     assert!(rt; stands(&store, unit));
     assert!(rt; stands(&store, single));
@@ -172,13 +172,13 @@ fn prints_a_statement(rt: HostRuntime) -> Result<(), Fail> {
     let mut store = ExpressionStore::new(alloc);
     let missing = place(&rt, &mut store, Expr::Missing)?;
     let path = place(&rt, &mut store, Expr::Path(Name::new(alloc, "total")?))?;
-    let unit = place(&rt, &mut store, Expr::Tuple(Items::new(alloc)))?;
-    let three = Items::from_slice(alloc, &[missing, path, unit])?;
+    let unit = place(&rt, &mut store, Expr::Tuple(ExprIds::new()))?;
+    let three = ExprIds::from_slice(alloc, &[missing, path, unit])?;
     let three = place(&rt, &mut store, Expr::Tuple(three))?;
     let block = Expr::Block {
-        statements: Items::from_slice(alloc, &[Statement::Expr(three)])?,
         tail: None,
         is_unsafe: false,
+        statements: boxed(alloc, &[Statement::Expr(three)])?,
     };
     let block = place(&rt, &mut store, block)?;
     assert!(rt; stands(&store, block));
@@ -188,6 +188,12 @@ fn prints_a_statement(rt: HostRuntime) -> Result<(), Fail> {
     Ok(())
 }
 
+fn boxed(alloc: Global, statements: &[Statement]) -> Result<Boxed<Items<Statement>>, AllocError>
+    ensures { IfOk result (λ boxed. boxed ≡ statements.now) }
+{
+    Ok(Boxed::new(alloc, Items::from_slice(alloc, statements)?)?)
+}
+
 // `(&@1,)`
 fn references(rt: &impl Abort, alloc: Global, store: &mut ExpressionStore) -> Result<ExprId, Fail>
     requires { NoDanglingIds store.old }
@@ -195,7 +201,7 @@ fn references(rt: &impl Abort, alloc: Global, store: &mut ExpressionStore) -> Re
 {
     let leaf = place(rt, store, Expr::Leaf(1))?;
     let argument = place(rt, store, Expr::Ref(leaf))?;
-    let references = Items::from_slice(alloc, &[argument])?;
+    let references = ExprIds::from_slice(alloc, &[argument])?;
     Ok(place(rt, store, Expr::Tuple(references))?)
 }
 
@@ -212,9 +218,9 @@ fn argument_list(
     let expr = place(rt, store, Expr::Path(Name::fresh(0)))?;
     let name = Name::tuple_field(0);
     let field = place(rt, store, Expr::Field { expr, name })?;
-    let args = Items::from_slice(alloc, &[field])?;
+    let args = ExprIds::from_slice(alloc, &[field])?;
     let argument = place(rt, store, Expr::Call { callee, args })?;
-    let list = Items::from_slice(alloc, &[argument])?;
+    let list = ExprIds::from_slice(alloc, &[argument])?;
     Ok(place(rt, store, Expr::Array(list))?)
 }
 
@@ -228,16 +234,16 @@ fn made_arguments(
     ensures { OnOk result (NoDanglingIds store.new) }
 {
     let callee = lang(rt, store, LangItem::FormatArguments, LangFn::New)?;
-    let template = Items::from_slice(alloc, b"\x01x\xc0\x02y{\x00")?;
+    let template = Boxed::new(alloc, Items::from_slice(alloc, b"\x01x\xc0\x02y{\x00")?)?;
     let template = place(rt, store, Expr::Literal(Literal::ByteString(template)))?;
     let list = place(rt, store, Expr::Path(Name::fresh(0)))?;
     let list = place(rt, store, Expr::Ref(list))?;
-    let args = Items::from_slice(alloc, &[template, list])?;
+    let args = ExprIds::from_slice(alloc, &[template, list])?;
     let call = place(rt, store, Expr::Call { callee, args })?;
     let block = Expr::Block {
-        statements: Items::new(alloc),
         tail: Some(call),
         is_unsafe: true,
+        statements: boxed(alloc, &[])?,
     };
     Ok(place(rt, store, block)?)
 }
@@ -264,9 +270,9 @@ fn two_lets(
         initializer: second,
     };
     let block = Expr::Block {
-        statements: Items::from_slice(alloc, &[first, second])?,
         tail: Some(tail),
         is_unsafe: false,
+        statements: boxed(alloc, &[first, second])?,
     };
     Ok(place(rt, store, block)?)
 }
@@ -294,7 +300,7 @@ fn prints_usages(rt: HostRuntime) -> Result<(), Fail> {
     let callee = place(&rt, &mut store, Expr::Missing)?;
     let text = Symbol::new(alloc, "hi")?;
     let text = place(&rt, &mut store, Expr::Literal(Literal::String(text)))?;
-    let args = Items::from_slice(alloc, &[text])?;
+    let args = ExprIds::from_slice(alloc, &[text])?;
     let call = place(&rt, &mut store, Expr::Call { callee, args })?;
     let mut usages = Items::new(alloc);
     usages.push((TextRange { start: 2, end: 3 }, Name::new(alloc, "x")?))?;

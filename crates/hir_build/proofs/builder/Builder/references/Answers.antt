@@ -1,8 +1,9 @@
-use Rattle.std.proofs.Common.{arith, ◌<◌, List, length, ap, ◌∷◌, slice_index_or}
+use Rattle.std.proofs.Common.{arith, ◌<◌, List, length, ap, sym, subst, ◌∙◌, ◌∷◌, slice_index_or}
 use Rattle.std.proofs.lemmas.List.{take_more}
 use Rattle.hir_store.specs.declared.ids.ExprId.{ExprId}
 use Rattle.hir_store.specs.Tree.{Ref}
 use Rattle.hir_store.specs.Unfolding.{place_of}
+use Rattle.hir_store.specs.PartsBelow.{AllBelow}
 use Rattle.hir_store.proofs.Grown.{longer}
 use Rattle.hir_build.specs.Origins.{Origin, bare}
 use Rattle.hir_build.proofs.Origins.{origins_later}
@@ -37,4 +38,4 @@ loop-id-preserved c =
     }
 
 pub returns-clause-within : goal.returns-clause-within
-returns-clause-within c = rw c.from_vec.ensures (placed_below _ _ _ _ c.loop-id.invariant.placed)
+returns-clause-within c = subst (AllBelow (length c.loop-id.self.store.exprs)) (sym (c.in_ok-from_slice.ensures ∙ c.as_slice.ensures.value)) (placed_below _ _ _ _ c.loop-id.invariant.placed)
