@@ -9,12 +9,11 @@ use Rattle.script.specs.Limit.{max_script_len}
 use Rattle.script.specs.declared.script.ScriptError.{ScriptError}
 use Rattle.script.specs.declared.script.ScriptError.TheVariants as error
 use Rattle.script.specs.Fault.{BreakIs}
+use Rattle.script.specs.Contents.{Contents}
 use Rattle.script.specs.Script.{IsScript, with_end}
 use Rattle.cfgfmt.specs.declared.session.Session.{Session}
 use Rattle.cfgfmt.specs.declared.refusal.Refusal.{Refusal}
 use Rattle.cfgfmt.specs.declared.refusal.Refusal.TheVariants.{Usage, Syntax, Read, Memory, ArenaFull, TooLong}
-use Rattle.ra_cfg.specs.Options.{OptionSet}
-use Rattle.gated_calls.specs.declared.call.GatedCall.{GatedCall}
 use Rattle.hir_store.specs.declared.store.ExpressionStore.{ExpressionStore}
 use Rattle.hir_store.specs.Store.{IsEmptyStore}
 use Rattle.hir_build.specs.Building.{Outgrows}
@@ -35,13 +34,14 @@ not_script bytes ended fault refusal fits is becomes breaks =
     by_fault (error.Memory refused) breaks = tt
 
 -- calls that don't fit into a store that is empty may place more expressions than an arena holds
-pub many_outgrow : (options : OptionSet) (calls : List GatedCall) (store : ExpressionStore) → IsEmptyStore store → ((most : ℕ) → AreMost options script_around calls most → Outgrows store most (most_lets options calls)) → AreMany options calls
-many_outgrow options calls store empty full most are = by_arena (full most are)
+pub many_outgrow : (contents : Contents) (store : ExpressionStore) → IsEmptyStore store
+    → ((most : ℕ) → AreMost contents.options (script_around contents) contents.calls most → Outgrows store most (most_lets contents.options contents.calls)) → AreMany contents
+many_outgrow contents store empty full most are = by_arena (full most are)
   where
-    by_arena : Outgrows store most (most_lets options calls) → 4294967295 < most
+    by_arena : Outgrows store most (most_lets contents.options contents.calls) → 4294967295 < most
     by_arena (inl exprs) = omega (arith, exprs, ap length empty.exprs)
-    by_arena (inr (inl pats)) = let fewer = lets_fewer options script_around calls most are in omega (arith, pats, ap length empty.pats, fewer)
-    by_arena (inr (inr bindings)) = let fewer = lets_fewer options script_around calls most are in omega (arith, bindings, ap length empty.bindings, fewer)
+    by_arena (inr (inl pats)) = let fewer = lets_fewer contents.options (script_around contents) contents.calls most are in omega (arith, pats, ap length empty.pats, fewer)
+    by_arena (inr (inr bindings)) = let fewer = lets_fewer contents.options (script_around contents) contents.calls most are in omega (arith, bindings, ap length empty.bindings, fewer)
 
 module _ (words : List (List ℕ)) (old new : SourceState) (right : is_reading_form words ≡ true) where
   -- a refusal to read the source is justified
@@ -63,15 +63,15 @@ module _ (words : List (List ℕ)) (old new : SourceState) (right : is_reading_f
   script_justified bytes read TooLong found = absurd found
 
   -- and one to lower the calls of its script
-  pub lower_justified : (bytes : List ℕ) → ReadsAll old new bytes → length bytes ≤ max_script_len → (options : OptionSet) (calls : List GatedCall) → IsScript bytes options calls
-      → (refusal : Refusal) → IsLowerRefusal (AreMany options calls) refusal → IsJustified words old new refusal
-  lower_justified bytes read fits options calls script Memory found = record { words_are = right; found = read.calm }
-  lower_justified bytes read fits options calls script ArenaFull many =
-      record { words_are = right; found = record { bytes = bytes; read = read; holds = record { fits = fits; options = options; calls = calls; script = script; many = many } } }
-  lower_justified bytes read fits options calls script Usage found = absurd found
-  lower_justified bytes read fits options calls script (Syntax line) found = absurd found
-  lower_justified bytes read fits options calls script Read found = absurd found
-  lower_justified bytes read fits options calls script TooLong found = absurd found
+  pub lower_justified : (bytes : List ℕ) → ReadsAll old new bytes → length bytes ≤ max_script_len → (contents : Contents) → IsScript bytes contents
+      → (refusal : Refusal) → IsLowerRefusal (AreMany contents) refusal → IsJustified words old new refusal
+  lower_justified bytes read fits contents script Memory found = record { words_are = right; found = read.calm }
+  lower_justified bytes read fits contents script ArenaFull many =
+      record { words_are = right; found = record { bytes = bytes; read = read; holds = record { fits = fits; contents = contents; script = script; many = many } } }
+  lower_justified bytes read fits contents script Usage found = absurd found
+  lower_justified bytes read fits contents script (Syntax line) found = absurd found
+  lower_justified bytes read fits contents script Read found = absurd found
+  lower_justified bytes read fits contents script TooLong found = absurd found
 
 module _ (words : List (List ℕ)) (old new : SourceState) (sink sink_now : SinkState) (session : Session) (still : IsNew session) (result : ℕ) where
   -- what was sent with the status of a refusal was written whole, where the status is not 5

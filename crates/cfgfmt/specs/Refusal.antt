@@ -2,8 +2,6 @@
 use Rattle.std.specs.Prelude.{◌≡◌, ℕ, ◌+◌, ◌<◌, ◌≤◌, length, Bool, true, false, List, [], ◌∷◌, ◌++◌, codes}
 use Rattle.std.specs.Str.{bytes_eq}
 use Rattle.std.specs.Fmt.{decimal}
-use Rattle.gated_calls.specs.declared.call.GatedCall.{GatedCall}
-use Rattle.ra_cfg.specs.Options.{OptionSet}
 use Rattle.hir_lower.specs.Lowered.{AreMost}
 use Rattle.causes.specs.Causes.{Rose}
 use Rattle.streams.specs.Streams.{SourceState}
@@ -11,6 +9,7 @@ use Rattle.streams.specs.ReadWrite.{ReadsAll, TakesCount}
 use Rattle.script.specs.Limit.{max_script_len}
 use Rattle.script.specs.declared.script.ScriptError.{ScriptError}
 use Rattle.script.specs.declared.script.ScriptError.TheVariants as error
+use Rattle.script.specs.Contents.{Contents}
 use Rattle.script.specs.Script.{IsScript, IsFaultLine}
 use Rattle.cfgfmt.specs.Session.{script_around}
 use Rattle.cfgfmt.specs.declared.refusal.Refusal.{Refusal}
@@ -44,17 +43,16 @@ pub record IsFaulty (bytes : List ℕ) (line : ℕ) : Type 0 where
   pub fits : length bytes ≤ max_script_len
   pub is_line : IsFaultLine bytes line
 
--- calls may place more expressions than an arena holds
-abbrev pub AreMany : OptionSet → List GatedCall → Type 0
-AreMany options calls = (most : ℕ) → AreMost options script_around calls most → 4294967295 < most
+-- the calls of a script may place more expressions than an arena holds
+abbrev pub AreMany : Contents → Type 0
+AreMany contents = (most : ℕ) → AreMost contents.options (script_around contents) contents.calls most → 4294967295 < most
 
 -- the bytes are a script whose calls may do so
 pub record OutgrowsArena (bytes : List ℕ) : Type 0 where
   pub fits : length bytes ≤ max_script_len
-  pub options : OptionSet
-  pub calls : List GatedCall
-  pub script : IsScript bytes options calls
-  pub many : AreMany options calls
+  pub contents : Contents
+  pub script : IsScript bytes contents
+  pub many : AreMany contents
 
 -- the source was read to its end without a fault, and this holds of its bytes
 pub record HasRead (old new : SourceState) (Holds : List ℕ → Type 0) : Type 0 where

@@ -6,6 +6,8 @@
 mod callers;
 mod program;
 mod refusal;
+#[cfg(test)]
+mod rows;
 mod session;
 #[cfg(test)]
 mod tests;

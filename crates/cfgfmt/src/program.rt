@@ -4,7 +4,8 @@ ghost use Rattle.streams.specs.Streams.{StaysKnown};
 ghost use Rattle.streams.specs.ReadWrite.{ReadsAll, TakesCount, TakesAtMost};
 ghost use Rattle.hir_lower.specs.Lowered.{AreOutcomes, AreRising, AreInStore};
 ghost use Rattle.hir_store.specs.Store.{NoDanglingIds};
-ghost use Rattle.script.specs.Script.{IsScript};
+ghost use Rattle.script.specs.Script.{contents, IsScript};
+ghost use Rattle.script_grammar.specs.Limits.{max_limit};
 ghost use Rattle.cfgfmt.specs.declared.refusal.Refusal.{Refusal};
 ghost use Rattle.cfgfmt.specs.Session.{IsNew, LowersAll, output_of, script_around};
 ghost use Rattle.cfgfmt.specs.Refusal.{is_reading_form, HasRead, IsFaulty, OutgrowsArena, AreMany, IsJustified, IsReadRefusal, IsScriptRefusal, IsLowerRefusal, refusal_of};
@@ -12,7 +13,6 @@ ghost use Rattle.cfgfmt.specs.Run.{Prints, Makes, Refuses, TellsWhole, WritesPar
 
 use crate::refusal::Refusal;
 use crate::session::{Session, script_collector};
-use hir_expander::MacroTable;
 use hir_lower::LowerError;
 use printer::print_outcomes;
 use script::{MAX_SCRIPT_LEN, Script, ScriptError, end_last_line, read_ended};
@@ -50,7 +50,8 @@ fn read_input<S: Source>(alloc: Global, source: &mut S) -> Result<Vec<u8>, Refus
 // Reads the script that bytes are.
 fn read_bytes(alloc: Global, mut bytes: Vec<u8>) -> Result<Script, Refusal>
     requires { vec_len bytes ≤ MAX_SCRIPT_LEN }
-    ensures script { IfOk result (λ script. IsScript bytes.items script.options script.calls.items) }
+    ensures script { IfOk result (λ script. IsScript bytes.items (contents script)) }
+    ensures limit { IfOk result (λ script. script.limit ≤ max_limit) }
     ensures refused { IfErr result (IsScriptRefusal bytes.items) }
 {
     match end_last_line(&mut bytes) {
@@ -75,19 +76,25 @@ fn refusal_of(error: ScriptError) -> Refusal
 
 // Lowers the calls of a script into the session, and prints what becomes of them. A refusal leaves the session as it was.
 fn lower(alloc: Global, script: Script, session: &mut Session) -> Result<Vec<u8>, Refusal>
+    requires { script.limit ≤ max_limit }
     ensures options { OnOk result (session.new.options ≡ script.options) }
-    ensures outcomes { OnOk result (AreOutcomes script.options script_around session.new.collector.store script.calls.items session.new.outcomes.items) }
+    ensures outcomes { OnOk result (AreOutcomes script.options (script_around (contents script)) session.new.collector.store script.calls.items session.new.outcomes.items) }
     ensures within { OnOk result (AreInStore session.new.collector.store session.new.outcomes.items) }
     ensures rising { OnOk result (AreRising 0 session.new.outcomes.items) }
     ensures no_dangling { OnOk result (NoDanglingIds session.new.collector.store) }
-    ensures lowered { OnOk result (LowersAll script.options script.calls.items session.new.outcomes.items session.new.collector) }
+    ensures lowered { OnOk result (LowersAll (contents script) session.new.outcomes.items session.new.collector) }
     ensures printed { IfOk result (λ output. output.items ≡ output_of session.new) }
     ensures kept { OnErr result (session.new ≡ session.old) }
-    ensures refused { IfErr result (IsLowerRefusal (AreMany script.options script.calls.items)) }
+    ensures refused { IfErr result (IsLowerRefusal (AreMany (contents script))) }
 {
-    let Script { options, calls } = script;
-    let macros = MacroTable::new(alloc);
-    let mut collector = script_collector(alloc, &macros);
+    let Script {
+        options,
+        macros,
+        limit,
+        items,
+        calls,
+    } = script;
+    let mut collector = script_collector(alloc, &macros, limit, items);
     let outcomes = match collector.collect_gated(alloc, &calls, &options, &macros) {
         Ok(outcomes) => outcomes,
         Err(LowerError::Memory(_)) => return Err(Refusal::Memory),

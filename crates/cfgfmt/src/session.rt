@@ -1,11 +1,13 @@
-ghost use Rattle.std.specs.Prelude.{◌≡◌, IfOk};
+ghost use Rattle.std.specs.Prelude.{◌≡◌, ◌≤◌, IfOk};
 ghost use Rattle.hir_store.specs.Store.{IsEmptyStore};
-ghost use Rattle.cfgfmt.specs.Session.{script_file, script_limit, script_items};
+ghost use Rattle.cfgfmt.specs.Session.{script_file};
+ghost use Rattle.script_grammar.specs.Limits.{max_limit};
 
 use hir_expander::MacroTable;
 use hir_lower::{ExprCollector, Outcome};
 use hir_store::LangItems;
 use ra_cfg::CfgOptions;
+use script::USUAL_LIMIT;
 use std::alloc::{AllocError, Global};
 use sym_core::FileId;
 
@@ -33,24 +35,31 @@ impl Session {
     pub fn new(alloc: Global) -> Result<Session, AllocError>
         ensures { IfOk result IsNew }
     {
+        let items = LangItems {
+            format_arguments: true,
+            format_argument: true,
+        };
         Ok(Session {
-            collector: script_collector(alloc, &MacroTable::new(alloc)),
+            collector: script_collector(alloc, &MacroTable::new(alloc), USUAL_LIMIT, items),
             options: CfgOptions::new(alloc)?,
             outcomes: Vec::new(alloc),
         })
     }
 }
 
-// A collector for the calls of a script: they stand in one file, and both language items are there.
-pub(crate) fn script_collector(alloc: Global, macros: &MacroTable) -> ExprCollector
+// A collector for the calls of a script with this recursion limit and these language items: they stand in one file.
+pub(crate) fn script_collector(
+    alloc: Global,
+    macros: &MacroTable,
+    limit: u32,
+    items: LangItems,
+) -> ExprCollector
+    requires { limit ≤ max_limit }
     ensures empty { IsEmptyStore result.store }
+    ensures fresh { result.fresh ≡ 0 }
     ensures file { result.file ≡ script_file }
-    ensures limit { result.limit ≡ script_limit }
-    ensures items { result.items ≡ script_items }
+    ensures limit { result.limit ≡ limit }
+    ensures items { result.items ≡ items }
 {
-    let items = LangItems {
-        format_arguments: true,
-        format_argument: true,
-    };
-    ExprCollector::new(alloc, macros, FileId { raw: 0 }, 128, items)
+    ExprCollector::new(alloc, macros, FileId { raw: 0 }, limit, items)
 }

@@ -33,7 +33,7 @@ fn told(
 }
 
 // What a run without words tells of a script.
-fn told_of(alloc: Global, script: &str) -> Result<String, Fail> {
+pub(crate) fn told_of(alloc: Global, script: &str) -> Result<String, Fail> {
     told(alloc, "", script.as_bytes().to_vec(alloc)?, &[], &[])
 }
 
@@ -102,62 +102,6 @@ format ""
             r#"0 2
 0 code Arguments::from_str(s"610A62")
 1 off
-"#,
-        ),
-    ];
-    for (script, want) in cases {
-        assert_eq!(rt;
-            told_of(rt.alloc(), script)?.as_str(),
-            want,
-            "of the script {script}"
-        );
-    }
-    Ok(())
-}
-
-// Placeholders of every kind; what they refer to may be written, captured, or not there.
-#[test]
-fn lowers_format_strings(rt: HostRuntime) -> Result<(), Fail> {
-    let cases = [
-        (
-            r#"format "{0} {0:x} {0} {1}" @1 @2"#,
-            r#"0 1
-0 code { let #0 = (&@1, &@2); let #0 = [Argument::new_display(#0.0), Argument::new_lower_hex(#0.0), Argument::new_display(#0.1)]; unsafe { Arguments::new(b"C00120C00120C800000120C8020000", &#0) } }
-"#,
-        ),
-        // The names that a literal spells are captured, and told with their places.
-        (
-            r#"format "{x:>w$.p$}""#,
-            r#"0 1
-0 code { let #0 = (&x, &p, &w); let #0 = [Argument::new_display(#0.0), Argument::from_usize(#0.2), Argument::from_usize(#0.1)]; unsafe { Arguments::new(b"F7200000380100020000", &#0) } }
-0 use x 2..3
-0 use p 8..9
-0 use w 5..6
-"#,
-        ),
-        // What is not referred to is evaluated once more.
-        (
-            r#"format "{}" @1 @2"#,
-            r#"0 1
-0 code { let #0 = (&@1, &@2); let #0 = [Argument::new_display(#0.0)]; @2; unsafe { Arguments::new(b"C000", &#0) } }
-"#,
-        ),
-        // There is nothing to refer to.
-        (
-            r#"format "{0}""#,
-            r#"0 1
-0 code unsafe { Arguments::new(b"C000", &[]) }
-"#,
-        ),
-        // A text that is no format string, and a literal without a value.
-        (
-            r#"
-format "{:}<" @1
-format "\q"
-"#,
-            r#"0 2
-0 code { @1; Arguments::from_str(s"") }
-1 code Arguments::from_str(s"")
 "#,
         ),
     ];

@@ -1,4 +1,4 @@
-use crate::calls::{ITEMS, collector, format_call, some_macros};
+use crate::calls::{ITEMS, collector, format_call, printed, some_macros};
 use hir_lower::{Call, GatedCall};
 use printer::print_outcomes;
 use ra_cfg::{CfgAtom, CfgExpr, CfgOptions};
@@ -36,6 +36,20 @@ fn lowered(alloc: Global, calls: &[GatedCall]) -> Result<(usize, Vec<u8>), Fail>
     let store = collector.store();
     let printed = print_outcomes(alloc, store, outcomes.as_slice())?;
     Ok((store.exprs.len(), printed))
+}
+
+// A call by itself, without predicates.
+#[test]
+fn lowers_a_call(rt: HostRuntime) -> Result<(), Fail> {
+    let alloc = rt.alloc();
+    let macros = some_macros(alloc)?;
+    let call = format_call(alloc, r#""{} {x}""#, "1 x=2")?;
+    let mut collector = collector(alloc, &macros, 128, ITEMS);
+    let printed = printed(alloc, &macros, &mut collector, &call)?;
+    let want =
+        "0 code { let #0 = (&@1, &@2); let #0 = [Argument::new_display(#0.0), Argument::new_display(#0.1)]; unsafe { Arguments::new(b\"C00120C000\", &#0) } }\n0 use x 5..6\n";
+    assert_eq!(rt; printed.as_slice(), want.as_bytes());
+    Ok(())
 }
 
 #[test]

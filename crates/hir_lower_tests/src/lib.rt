@@ -12,6 +12,4 @@ mod literals;
 #[cfg(test)]
 mod long;
 #[cfg(test)]
-mod rows;
-#[cfg(test)]
 mod templates;

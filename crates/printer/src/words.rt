@@ -1,10 +1,10 @@
-ghost use Rattle.std.specs.Prelude.{◌≡◌, ◌++◌, OnOk, string_bytes, codes};
+ghost use Rattle.std.specs.Prelude.{◌≡◌, ◌<◌, ◌++◌, true, OnOk, string_bytes, codes};
+ghost use Rattle.std.specs.Fmt.{digit_glyph};
 ghost use Rattle.hir_store.specs.Unfolding.{literal_tree};
 ghost use Rattle.printer.specs.Printed.{hex_of, hex_pair, item_word, function_word, text_of};
 
 use hir_store::{LangFn, LangItem, Literal};
 use std::alloc::AllocError;
-use std::fmt::Write;
 
 /// The word for a language item.
 pub fn item_word(item: LangItem) -> &'static str
@@ -70,10 +70,22 @@ fn push_hex(out: &mut String, bytes: &[u8]) -> Result<(), AllocError>
     Ok(())
 }
 
+/// The upper case hexadecimal digit of a number below 16.
+fn hex_digit(number: u8) -> char
+    requires { number < 16 }
+    ensures { result ≡ digit_glyph true number }
+{
+    if number < 10 {
+        (b'0' + number) as char
+    } else {
+        (b'A' - 10 + number) as char
+    }
+}
+
 /// Writes a byte as two upper case hexadecimal digits.
-#[tactic(auto, using(std::proofs::lemmas::Fmt::hex_byte))]
 fn push_byte(out: &mut String, byte: u8) -> Result<(), AllocError>
     ensures { OnOk result (string_bytes out.new ≡ string_bytes out.old ++ hex_pair byte) }
 {
-    write!(out, "{byte:02X}")
+    out.push(hex_digit(byte / 16))?;
+    out.push(hex_digit(byte % 16))
 }

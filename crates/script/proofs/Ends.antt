@@ -5,7 +5,7 @@ use Rattle.std.specs.Str.{IsUtf8, IsValidUpTo}
 use Rattle.std.proofs.lemmas.List.{length-take, take-append-drop, take_at}
 use Rattle.std.proofs.lemmas.Option.{same_Some}
 use Rattle.script.specs.Script.{ends_line, with_end}
-use Rattle.script.specs.ReadCalls.{IsValidFront}
+use Rattle.script.specs.ReadLines.{IsValidFront}
 
 -- the last byte tells whether the last line is ended
 ends_by_last : (b : ℕ) (bytes : List ℕ) (c : ℕ) → slice_get (b ∷ bytes) (length bytes) ≡ Some c → ends_line (b ∷ bytes) ≡ nat_eq c 10

@@ -1,9 +1,5 @@
-pub mod Leaves
-pub mod Arguments
-pub mod Words
+pub mod SoFar
 pub mod Lines
-pub mod Bodies
-pub mod Items
-pub mod Calls
+pub mod Steps
 pub mod Ends
 pub mod OneScript

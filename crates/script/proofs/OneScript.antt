@@ -3,7 +3,7 @@ use Rattle.std.proofs.Common.{◌≡◌, ℕ, ◌≤◌, List, length, take, cou
 use Rattle.std.proofs.lemmas.List.{take_at}
 use Rattle.script.specs.Script.{BreaksAt}
 use Rattle.script.specs.Laws.{HasOneReading}
-use Rattle.script.proofs.Calls.{one_set, one_calls}
+use Rattle.script.proofs.Lines.{one_contents}
 
 -- bytes break in one line
 one_line : (bytes : List ℕ) (line other : ℕ) → BreaksAt bytes line → BreaksAt bytes other → line ≡ other
@@ -16,8 +16,7 @@ one_line bytes line other a b =
 
 pub has_one_reading : HasOneReading
 has_one_reading = record {
-  options = λ bytes options others calls more a b. one_set _ options others calls more a b;
-  calls = λ bytes options others calls more a b. one_calls _ options others calls more a b;
+  one = λ bytes contents other a b. one_contents _ contents other a b;
   line = λ bytes line other a b. one_line _ line other a b;
-  never_both = λ bytes options calls line script fault. fault.none options calls script;
+  never_both = λ bytes contents line script fault. fault.none contents script;
 }

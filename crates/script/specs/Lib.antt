@@ -1,10 +1,6 @@
 pub mod Limit
-pub mod Line
-pub mod Bodies
-pub mod ReadBodies
+pub mod Contents
 pub mod Script
-pub mod ReadItem
-pub mod ItemOf
-pub mod ReadCalls
+pub mod ReadLines
 pub mod Fault
 pub mod Laws

@@ -1,23 +1,31 @@
-ghost use Rattle.std.specs.Prelude.{◌≡◌, ◌≤◌, [], ◌∷◌, IfOk, OnOk, length, map};
-ghost use Rattle.script.specs.Bodies.{SetFlag, SetPair, SetVersion};
-ghost use Rattle.script.specs.Script.{OptionItem, PredicateItem, FormatItem};
-ghost use Rattle.script.specs.ItemOf.{item_of, AreArguments, IsNumbered, leaf_of};
-ghost use Rattle.script.specs.ReadCalls.{IsEmpty, GoesOn};
+ghost use Rattle.std.specs.Prelude.{◌≡◌, ◌<◌, ◌≤◌, [], Some, IfOk, OnOk, length};
+ghost use Rattle.hir_expander.specs.Table.{max_macros};
+ghost use Rattle.script_grammar.specs.declared.item.Item.{Item};
+ghost use Rattle.script.specs.Contents.{without};
+ghost use Rattle.script.specs.ReadLines.{GoesOn, HasRead};
 
-use crate::item::ScriptItem;
 use gated_calls::{Call, GatedCall};
+use hir_expander::MacroTable;
+use hir_store::{LangItem, LangItems};
 use ra_cfg::{CfgExpr, CfgOptions};
+use script_grammar::{Item, RecursionLimit};
 use sqlite_items::Items;
 use std::alloc::{AllocError, Global};
 use std::mem;
-use sym_core::{AstPtr, Symbol};
-use syn_trees::{FormatArgSyntax, FormatCall, StringLit, Template};
+use sym_core::AstPtr;
+use syn_trees::{CfgPredicate, FormatCall, Template, TokenTree, TopSubtree};
 
-/// What the items of a script have given so far.
+/// What the lines of a script have said so far.
 #[derive(Drop)]
 pub(crate) struct Reading {
     /// The options, with those that were put in.
     pub(crate) options: CfgOptions,
+    /// The macros that were defined.
+    pub(crate) macros: MacroTable,
+    /// The last recursion limit, or the usual one.
+    pub(crate) limit: RecursionLimit,
+    /// The language items that were not taken away.
+    pub(crate) items: LangItems,
     /// The predicates that wait for a call.
     pub(crate) waiting: Items<CfgExpr>,
     /// The calls, in order.
@@ -25,48 +33,22 @@ pub(crate) struct Reading {
 }
 
 impl Reading {
-    /// What no items give.
+    /// What no lines say.
     pub(crate) fn new(alloc: Global) -> Result<Reading, AllocError>
-        ensures { IfOk result (λ reading. IsEmpty reading) }
+        ensures { IfOk result (λ reading. HasRead reading []) }
     {
         let options = CfgOptions::new(alloc)?;
         Ok(Reading {
             options,
+            macros: MacroTable::new(alloc),
+            limit: RecursionLimit::usual(),
+            items: LangItems {
+                format_arguments: true,
+                format_argument: true,
+            },
             waiting: Items::new(alloc),
             calls: Vec::new(alloc),
         })
-    }
-
-    // Puts a flag in.
-    fn set_flag(&mut self, alloc: Global, name: &str) -> Result<(), AllocError>
-        ensures { OnOk result (GoesOn self.old (OptionItem (SetFlag name.now) ∷ []) self.new) }
-    {
-        let key = Symbol::new(alloc, name)?;
-        self.options.insert_atom(key)?;
-        Ok(())
-    }
-
-    // Puts a key with a value in.
-    fn set_pair(&mut self, alloc: Global, key: &str, value: Symbol) -> Result<(), AllocError>
-        ensures { OnOk result (GoesOn self.old (OptionItem (SetPair key.now value) ∷ []) self.new) }
-    {
-        let key = Symbol::new(alloc, key)?;
-        self.options.insert_key_value(key, value)?;
-        Ok(())
-    }
-
-    // Gives a version an answer.
-    fn set_version(&mut self, text: Symbol, answer: bool) -> Result<(), AllocError>
-        ensures { OnOk result (GoesOn self.old (OptionItem (SetVersion text answer) ∷ []) self.new) }
-    {
-        self.options.set_version(text, answer)
-    }
-
-    // Lets a predicate wait for the next call.
-    fn push_predicate(&mut self, predicate: CfgExpr) -> Result<(), AllocError>
-        ensures { OnOk result (GoesOn self.old (PredicateItem predicate ∷ []) self.new) }
-    {
-        self.waiting.push(predicate)
     }
 
     /// The pointer of the next call: the number of the calls so far.
@@ -79,49 +61,62 @@ impl Reading {
         }
     }
 
-    // Adds a call of `format_args!` with this pointer, and with the predicates that waited for it.
-    fn push_format(
-        &mut self,
-        alloc: Global,
-        ptr: AstPtr,
-        literal: StringLit,
-        args: Items<FormatArgSyntax>,
-    ) -> Result<(), AllocError>
-        requires next { ptr.node ≡ length self.old.calls.items }
-        requires numbered { AreArguments ptr.node args }
-        ensures { OnOk result (GoesOn self.old (FormatItem (record { token = literal; leaves = map leaf_of args }) ∷ []) self.new) }
+    // Takes a language item away.
+    fn take_away(&mut self, item: LangItem)
+        ensures { GoesOn self.old (Some (Item.NoLang item)) self.new }
+    {
+        match item {
+            LangItem::FormatArguments => self.items.format_arguments = false,
+            LangItem::FormatArgument => self.items.format_argument = false,
+        }
+    }
+
+    // Lets the predicate that token trees say wait for the next call.
+    fn push_trees(&mut self, alloc: Global, trees: Items<TokenTree>) -> Result<(), AllocError>
+        ensures { OnOk result (GoesOn self.old (Some (Item.Cfg trees)) self.new) }
+    {
+        let predicate = CfgExpr::parse(alloc, &TopSubtree { trees })?;
+        self.waiting.push(predicate)
+    }
+
+    // Lets the predicate that a syntax says wait for the next call.
+    fn push_syntax(&mut self, alloc: Global, syntax: CfgPredicate) -> Result<(), AllocError>
+        ensures { OnOk result (GoesOn self.old (Some (Item.Attr syntax)) self.new) }
+    {
+        let predicate = CfgExpr::parse_from_ast(alloc, &syntax)?;
+        self.waiting.push(predicate)
+    }
+
+    // Adds a call, with the predicates that waited for it.
+    fn push_call(&mut self, alloc: Global, call: FormatCall) -> Result<(), AllocError>
+        ensures { OnOk result (GoesOn self.old (Some (Item.Format call)) self.new) }
     {
         let cfgs = mem::replace(&mut self.waiting, Items::new(alloc));
-        self.calls.push(GatedCall {
-            cfgs,
-            call: Call::Format(FormatCall {
-                template: Some(Template::Str(literal)),
-                template_ptr: ptr,
-                args,
-                ptr,
-            }),
-        })?;
+        let call = Call::Format(call);
+        self.calls.push(GatedCall { cfgs, call })?;
         Ok(())
     }
 
-    /// Adds what the next item gives. The pointer is that of the next call.
-    pub(crate) fn add(
-        &mut self,
-        alloc: Global,
-        ptr: AstPtr,
-        item: ScriptItem<'_>,
-    ) -> Result<(), AllocError>
-        requires next { ptr.node ≡ length self.old.calls.items }
-        requires numbered { IsNumbered ptr.node item }
-        ensures { OnOk result (GoesOn self.old (item_of item.entry ∷ []) self.new) }
+    /// Adds what the next line says.
+    pub(crate) fn add(&mut self, alloc: Global, item: Item) -> Result<(), AllocError>
+        requires { length self.old.macros < max_macros }
+        ensures { OnOk result (GoesOn self.old (Some item) self.new) }
     {
         match item {
-            ScriptItem::Blank => Ok(()),
-            ScriptItem::Flag(name) => self.set_flag(alloc, name),
-            ScriptItem::Pair { key, value } => self.set_pair(alloc, key, value),
-            ScriptItem::Version { text, answer } => self.set_version(text, answer),
-            ScriptItem::Predicate(predicate) => self.push_predicate(predicate),
-            ScriptItem::Format { literal, args } => self.push_format(alloc, ptr, literal, args),
+            Item::Flag(name) => {
+                self.options.insert_atom(name)?;
+            }
+            Item::Pair { key, value } => {
+                self.options.insert_key_value(key, value)?;
+            }
+            Item::Version { text, answer } => self.options.set_version(text, answer)?,
+            Item::Limit(limit) => self.limit = limit,
+            Item::NoLang(lang) => self.take_away(lang),
+            Item::Macro { name, body } => self.macros.define(name, body)?,
+            Item::Cfg(trees) => self.push_trees(alloc, trees)?,
+            Item::Attr(syntax) => self.push_syntax(alloc, syntax)?,
+            Item::Format(call) => self.push_call(alloc, call)?,
         }
+        Ok(())
     }
 }

@@ -1,6 +1,6 @@
 -- Which characters begin a word, and which go on one.
-use Rattle.std.proofs.Common.{◌≡◌, ℕ, ◌<◌, Bool, true, false, ◌||◌, ◌==◌, nat_eq, List, [], ◌∷◌, ◌++◌, length, refl, ap, ◌∙◌, subst, arith}
-use Rattle.std.specs.Char.{is_ascii_alphabetic, is_ascii_alphanumeric, is_ascii_digit}
+use Rattle.std.proofs.Common.{◌≡◌, ℕ, ◌<◌, Bool, true, false, ◌||◌, nat_eq, List, [], ◌∷◌, ◌++◌, refl, ap, ◌∙◌, subst, arith}
+use Rattle.std.specs.Char.{is_ascii_alphabetic}
 use Rattle.std.proofs.lemmas.Bool.Decides.{nat_tests}
 use Rattle.unicode_ident.specs.Ident.{is_xid_start}
 use Rattle.unicode_ident.proofs.IdentLemmas.{is_xid_start-ascii, is_xid_continue-ascii, is_xid_start-is_xid_continue}
@@ -14,24 +14,9 @@ not_both b t f = cc
 blank_small : (c : ℕ) → is_blank c ≡ true → c < 128
 blank_small c e = grind (arith, nat_tests)
 
--- a blank goes on no word
-pub blank_ends : (c : ℕ) → is_blank c ≡ true → continues_word c ≡ false
-blank_ends c e = is_xid_continue-ascii c (blank_small c e) ∙ no_letter c e
-  where
-    no_letter : (c : ℕ) → is_blank c ≡ true → is_ascii_alphanumeric c || (c == 95) ≡ false
-    no_letter c e = grind (arith, nat_tests)
-
--- an ASCII character that is no letter and no `_` begins no word
-pub begins_no_word : (c : ℕ) → c < 128 → is_ascii_alphabetic c || nat_eq c 95 ≡ false → begins_word c ≡ false
-begins_no_word c small e = ap (λ b. b || nat_eq c 95) (is_xid_start-ascii c small) ∙ e
-
--- neither do they go on one
-pub goes_on_no_word : (c : ℕ) → c < 128 → is_ascii_alphanumeric c || (c == 95) ≡ false → continues_word c ≡ false
-goes_on_no_word c small e = is_xid_continue-ascii c small ∙ e
-
 -- a blank begins no word
 blank_begins_no_word : (c : ℕ) → is_blank c ≡ true → begins_word c ≡ false
-blank_begins_no_word c e = begins_no_word c (blank_small c e) (no_letter c e)
+blank_begins_no_word c e = ap (λ b. b || nat_eq c 95) (is_xid_start-ascii c (blank_small c e)) ∙ no_letter c e
   where
     no_letter : (c : ℕ) → is_blank c ≡ true → is_ascii_alphabetic c || nat_eq c 95 ≡ false
     no_letter c e = grind (arith, nat_tests)
@@ -54,39 +39,6 @@ begins_continues c e = by_test (is_xid_start c) refl
     by_test : (t : Bool) → is_xid_start c ≡ t → continues_word c ≡ true
     by_test true is = is_xid_start-is_xid_continue c is
     by_test false is = subst (λ d. continues_word d ≡ true) (is_underscore c (is_xid_start c) is e) (is_xid_continue-ascii 95 (omega arith))
-
--- a digit goes on a word
-digit_continues : (c : ℕ) → is_ascii_digit c ≡ true → continues_word c ≡ true
-digit_continues c e = is_xid_continue-ascii c (small c e) ∙ letter c e
-  where
-    small : (c : ℕ) → is_ascii_digit c ≡ true → c < 128
-    small c e = grind (arith, nat_tests)
-
-    letter : (c : ℕ) → is_ascii_digit c ≡ true → is_ascii_alphanumeric c || (c == 95) ≡ true
-    letter c e = grind (arith, nat_tests)
-
--- what goes on no word is no digit
-no_digit : (c : ℕ) → continues_word c ≡ false → is_ascii_digit c ≡ false
-no_digit c e = by_test (is_ascii_digit c) refl
-  where
-    by_test : (t : Bool) → is_ascii_digit c ≡ t → is_ascii_digit c ≡ false
-    by_test true is = absurd (not_both (continues_word c) (digit_continues c is) e)
-    by_test false is = is
-
--- digits end where a word would
-pub digits_end : (rest : List ℕ) → starts continues_word rest ≡ false → starts is_ascii_digit rest ≡ false
-digits_end [] e = refl
-digits_end (c ∷ rest) e = no_digit c e
-
--- a word ends in front of the end of its line
-pub word_ends : (after rest : List ℕ) → AllPass is_blank after → starts continues_word (after ++ 10 ∷ rest) ≡ false
-word_ends [] rest are = is_xid_continue-ascii 10 (omega arith)
-word_ends (c ∷ after) rest are = blank_ends c are.0
-
--- a word ends in front of blanks
-pub blanks_end_word : (blanks rest : List ℕ) → 0 < length blanks → AllPass is_blank blanks → starts continues_word (blanks ++ rest) ≡ false
-blanks_end_word [] rest some are = absurd (omega arith)
-blanks_end_word (c ∷ blanks) rest some are = blank_ends c are.0
 
 -- a word begins with a character that begins one, and all its characters go on one
 pub word_begins : (word rest : List ℕ) → IsWord word → starts begins_word (word ++ rest) ≡ true

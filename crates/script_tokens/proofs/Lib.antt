@@ -1,7 +1,17 @@
 pub mod Characters
-pub mod Words
-pub mod Strings
+pub mod Signs
 pub mod ReadWords
-pub mod Digits
-pub mod Numbers
 pub mod RawStarts
+pub mod Opens
+pub mod Spellings
+pub mod Tokens
+pub mod Before
+pub mod Ahead
+pub mod Lines
+pub mod Items
+pub mod WordRuns
+pub mod Numbers
+pub mod Many
+pub mod ItemEnds
+mod Examples
+mod ReaderExamples

@@ -5,12 +5,11 @@ use Rattle.std.proofs.lemmas.Option.{same_Some}
 use Rattle.text_cut.specs.Runs.{starts, front, size, AllPass}
 use Rattle.text_cut.specs.Place.{Place, place, past, Took}
 use Rattle.text_cut.proofs.Runs.{front_of, front_is}
-use Rattle.text_cut.proofs.Rules.{past_is}
+use Rattle.text_cut.proofs.Rules.{past_is, past_run}
 use Rattle.text_cut.proofs.OptionLaws.{chosen, none_some}
 use Rattle.script_tokens.specs.Words.{begins_word, continues_word, IsWord}
 use Rattle.script_tokens.specs.ReadTokens.{word_at}
 use Rattle.script_tokens.proofs.Characters.{word_begins, word_continues, begins_continues}
-use Rattle.script_tokens.proofs.Strings.{past_run}
 
 -- a word is found where no word goes on behind it
 pub word_read : (word rest : List ℕ) (at : ℕ) → IsWord word → starts continues_word rest ≡ false → word_at (place at (word ++ rest)) ≡ Some (encode_utf8_all word, place (at + size word) rest)
@@ -18,7 +17,7 @@ word_read word rest at is stops =
     let continues : AllPass continues_word word = word_continues word is in
     ap (λ b. cond b (Some (encode_utf8_all (front continues_word (word ++ rest)), past continues_word (place at (word ++ rest)))) None) (word_begins word rest is)
     ∙ (ap (λ l. Some (encode_utf8_all l, past continues_word (place at (word ++ rest)))) (front_of continues_word word rest (record { pass = continues; stops = stops }))
-    ∙ ap (λ p. Some (encode_utf8_all word, p)) (past_run continues_word word rest at continues stops))
+    ∙ ap (λ p. Some (encode_utf8_all word, p)) (past_run continues_word word rest at (record { pass = continues; stops = stops })))
 
 -- a word stands between two places
 pub record WordIs (here : Place) (r : List ℕ × Place) : Type 0 where

@@ -1,2 +1,11 @@
 pub mod Words
+pub mod Tokens
 pub mod ReadTokens
+pub mod Ahead
+pub mod Lines
+pub mod Items
+pub mod Laws
+pub mod Readers
+pub mod Numbers
+pub mod Many
+pub mod Found

@@ -1,60 +1,76 @@
--- Words, keywords, comments, string tokens and numbers, as functions of the characters at a place.
-use Rattle.std.specs.Prelude.{ℕ, nat_le, ◌==◌, List, [], ◌∷◌, Option, Some, None, if◌then◌else◌, option_map}
-use Rattle.std.specs.Option.{option_and_then}
-use Rattle.std.specs.Str.{encode_utf8_all}
-use Rattle.std.specs.Str.Parse.{digits_value}
+-- Tokens as functions of the characters at a place, in the code's own steps.
+use Rattle.std.specs.Prelude.{ℕ, Bool, ◌==◌, nat_lt, if◌then◌else◌, List, Option, Some, None, is_some, option_map}
+use Rattle.std.specs.Option.{option_or, option_and_then}
 use Rattle.std.specs.Char.{is_ascii_digit}
-use Rattle.text_cut.specs.Runs.{front, starts, is_blank}
-use Rattle.text_cut.specs.Place.{Place, past}
-use Rattle.text_cut.specs.Rules.{past_word}
-use Rattle.syn_trees.specs.ReadString.{between, token_end}
-use Rattle.script_tokens.specs.Words.{begins_word, continues_word, is_in_line}
+use Rattle.std.specs.Str.{encode_utf8_all}
+use Rattle.text_cut.specs.Runs.{starts, front, is_blank}
+use Rattle.text_cut.specs.Place.{Place, past, first}
+use Rattle.syn_trees.specs.ReadString.{raw_start}
+use Rattle.syn_trees.specs.ReadQuoted.{Str, str_at}
+use Rattle.script_tokens.specs.declared.token.Bracket.TheVariants.{Round, Square, Curly}
+use Rattle.script_tokens.specs.Words.{begins_word, continues_word}
+use Rattle.script_tokens.specs.Tokens.{Kind, Word, Numeral, Text, Mark, Open, Close, Tok, is_mark, spacing}
 
--- the place behind a word that stands behind blanks
-abbrev pub past_spaced : List ℕ → Place → Option Place
-past_spaced word p = past_word word (past is_blank p)
+-- bytes and the place behind them, as a token
+abbrev pub as_word : List ℕ × Place → Kind × Place
+as_word r = (Word r.0, r.1)
 
--- the place behind blanks and a line feed
-abbrev pub past_line : Place → Option Place
-past_line p = past_spaced (10 ∷ []) p
+abbrev pub as_numeral : List ℕ × Place → Kind × Place
+as_numeral r = (Numeral r.0, r.1)
 
--- the bytes of the word that stands at this place, and the place behind it
+abbrev pub as_text : Str × Place → Kind × Place
+as_text r = (Text r.0, r.1)
+
+-- the bytes of the characters that go on a word, where the first of them passes a test, and the place behind them
+abbrev pub word_by : (ℕ → Bool) → Place → Option (List ℕ × Place)
+word_by begins p = if starts begins p.left then Some (encode_utf8_all (front continues_word p.left), past continues_word p) else None
+
+-- the word that stands at a place
 abbrev pub word_at : Place → Option (List ℕ × Place)
-word_at p = if starts begins_word p.left then Some (encode_utf8_all (front continues_word p.left), past continues_word p) else None
+word_at p = word_by begins_word p
 
--- the bytes of the string token between these places, and the place behind it
-abbrev pub token_between : Place → Place → List ℕ × Place
-token_between p e = (encode_utf8_all (between p e), e)
+-- the numeral that stands at a place
+abbrev pub numeral_at : Place → Option (List ℕ × Place)
+numeral_at p = word_by is_ascii_digit p
 
--- the bytes of the string token that stands at this place, and the place behind it
-abbrev pub token_at : Place → Option (List ℕ × Place)
-token_at p = option_map (token_between p) (token_end p)
+-- whether a raw string's start stands at a place
+abbrev pub opens_raw : Place → Bool
+opens_raw p = is_some (raw_start p)
 
--- the bytes of the string token that stands behind blanks, and the place behind it
-abbrev pub string_at : Place → Option (List ℕ × Place)
-string_at p = token_at (past is_blank p)
+-- the bracket that a character is
+abbrev pub bracket_of : ℕ → Option Kind
+bracket_of c =
+    if c == 40 then Some (Open Round) else
+    if c == 41 then Some (Close Round) else
+    if c == 91 then Some (Open Square) else
+    if c == 93 then Some (Close Square) else
+    if c == 123 then Some (Open Curly) else
+    if c == 125 then Some (Close Curly) else
+    None
 
--- the number that digits write, if there are some and it has 32 bits
-abbrev pub number_of : List ℕ → Option ℕ
-number_of [] = None
-number_of (d ∷ digits) = if nat_le (digits_value 10 (d ∷ digits)) 4294967295 then Some (digits_value 10 (d ∷ digits)) else None
+-- the mark that a character is in front of this rest
+abbrev pub mark_of : ℕ → List ℕ → Option Kind
+mark_of c rest = if is_mark c then Some (Mark c (spacing rest)) else None
 
--- the number of the digits in front of this place, if nothing that goes on a word stands there
-abbrev pub number_behind : List ℕ → Place → Option (ℕ × Place)
-number_behind digits end = if starts continues_word end.left then None else option_map (λ n. (n, end)) (number_of digits)
+-- the token of one character, and the place behind it
+abbrev pub sign_by : ℕ × Place → Option (Kind × Place)
+sign_by r = option_map (λ kind. (kind, r.1)) (option_or (bracket_of r.0) (mark_of r.0 r.1.left))
 
--- the number that stands at this place, and the place behind it
-abbrev pub number_at : Place → Option (ℕ × Place)
-number_at p = number_behind (front is_ascii_digit p.left) (past is_ascii_digit p)
+abbrev pub sign_at : Place → Option (Kind × Place)
+sign_at p = option_and_then sign_by (first p)
 
--- the place, if no character that goes on a word stands there
-abbrev pub at_word_end : Place → Option Place
-at_word_end e = if starts continues_word e.left then None else Some e
+-- a word, a numeral or a sign
+abbrev pub plain_at : Place → Option (Kind × Place)
+plain_at p = option_or (option_map as_word (word_at p)) (option_or (option_map as_numeral (numeral_at p)) (sign_at p))
 
--- the place behind a keyword, if it stands at this place as a whole word
-abbrev pub past_keyword : List ℕ → Place → Option Place
-past_keyword keyword p = option_and_then at_word_end (past_word keyword p)
+-- the token that stands at a place, and the place behind it
+abbrev pub bare_at : Place → Option (Kind × Place)
+bare_at p = option_or (option_map as_text (str_at p)) (if opens_raw p then None else plain_at p)
 
--- the place behind a comment, or where there is none, the place itself
-abbrev pub past_comment : Place → Place
-past_comment p = if starts (λ c. c == 35) p.left then past is_in_line p else p
+-- a token behind the blanks between two places
+abbrev pub spaced_by : Place → Place → Kind × Place → Tok × Place
+spaced_by p begin r = (record { spaced = nat_lt p.at begin.at; kind = r.0 }, r.1)
+
+-- the token that stands behind blanks, and the place behind it
+abbrev pub tok_at : Place → Option (Tok × Place)
+tok_at p = option_map (spaced_by p (past is_blank p)) (bare_at (past is_blank p))

@@ -1,7 +1,17 @@
-//! The words that scripts are made of: words, keywords, comments, string tokens, numbers and the ends of lines.
-//! Each reader is given a place, and answers what stands there and the place behind it.
+//! The tokens of a script's lines: words, numerals, string tokens, marks and brackets, and the ends of lines.
+//! A cursor stands for the list of the tokens that are left of its line, so that a grammar is a function on lists of tokens.
 #![tactic(auto)]
 
-mod tokens;
+mod item_line;
+mod laws;
+mod lexer;
+mod line;
+mod reader;
+mod token;
 
-pub use tokens::{comment, keyword, line_end, line_feed, number, plain_word, string};
+pub use item_line::end_item;
+pub use laws::lines_are_read;
+pub use lexer::next_token;
+pub use line::{blank_line, line_end};
+pub use reader::{arrow, close_round, direct_number, leaf, mark, number, open_round, text, word};
+pub use token::{Bracket, Token, TokenKind};

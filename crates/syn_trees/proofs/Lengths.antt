@@ -15,7 +15,8 @@ use Rattle.syn_trees.specs.Escape.{is_hex, letter, IsUnit, self, by_letter, asci
 use Rattle.syn_trees.specs.Literal.{ValueOf, HasValue, IsBetweenQuotes, FitsBetweenQuotes, opening}
 use Rattle.syn_trees.specs.ReadString.{closing}
 use Rattle.syn_trees.specs.Laws.{ValuesFit}
-use Rattle.syn_trees.proofs.Tokens.{marks_size, quoted_size}
+use Rattle.syn_trees.proofs.RawStarts.{marks_size}
+use Rattle.syn_trees.proofs.Tokens.{quoted_size}
 use Rattle.syn_trees.proofs.Literals.{SameParts, one_quoting}
 
 -- the character of a letter behind `\` takes one byte

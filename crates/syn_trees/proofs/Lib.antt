@@ -1,6 +1,6 @@
-pub mod Words
 pub mod Plain
 pub mod Raw
+pub mod RawStarts
 pub mod Tokens
 pub mod Units
 pub mod Digits

@@ -1,6 +1,8 @@
 -- Literals: bytes that are one are found whole, their parts are the only ones, and so is their value.
 use Rattle.std.proofs.Common.{◌≡◌, ℕ, ◌+◌, ◌<◌, ◌≤◌, Bool, true, false, not, IsTrue, MatchBool, nat_eq, inl, inr, List, [], ◌∷◌, ◌++◌, length, Option, Some, None, refl, ap, ◌∙◌, sym, subst, arith}
 use Rattle.std.specs.Str.{IsUtf8, chars, encode_utf8_all}
+use Rattle.std.proofs.Math.Logic.{∥∥₁_elim}
+use Rattle.std.proofs.Props.{props}
 use Rattle.std.proofs.lemmas.List.{append-nil, append_cancel_right}
 use Rattle.std.proofs.lemmas.Option.{same_Some}
 use Rattle.std.proofs.lemmas.Str.{encodes-chars}
@@ -14,7 +16,7 @@ use Rattle.syn_trees.specs.StringToken.{Quoting, Plain, Raw, IsQuoted, IsStringT
 use Rattle.syn_trees.specs.Escape.{HasUnits, meant_of}
 use Rattle.syn_trees.specs.Literal.{IsLiteral, ValueOf, HasValue, HasNoValue, opening, IsUnescaped}
 use Rattle.syn_trees.specs.ReadString.{Found, closing, marks_of, token_at, token_end, PartsOf}
-use Rattle.syn_trees.proofs.Tokens.{found_from, parts_found, token_found, TokenIs, token_is}
+use Rattle.syn_trees.proofs.Tokens.{found_from, parts_found, token_found, TokenIs, token_is, PartsAre, parts_are}
 
 -- a token that is a whole text is found, and nothing is left
 whole_found : (token : List ℕ) → IsStringToken token → token_end (place 0 token) ≡ Some (place (0 + size token) [])
@@ -166,3 +168,19 @@ unescaped_by_end bytes here end ends begins passes other by = by_answer ends by
 -- the bytes of a text between two places
 pub between_size : (here end : Place) (text : List ℕ) → IsUtf8 text → Took here end (chars text) → length text ≤ end.at
 between_size here end text utf8 took = omega (arith, took.ends, size_bytes (chars text), ap length (encodes-chars text utf8))
+
+-- the text of a token that is found is a literal
+pub token_literal : (p : Place) (found : Found) (text : List ℕ) → IsUtf8 text → Some found ≡ token_at p → Took p found.end (chars text) → found.end.at ≤ 4_294_967_295 → IsLiteral text
+token_literal p found text utf8 there took small =
+    let parts : PartsAre p found = parts_are p found (sym there) in
+    record {
+      is = subst (λ l. IsStringToken l) (took_same p found.end parts.token (chars text) parts.took took) (record { quoting = parts.quoting; inside = parts.inside; quoted = parts.quoted });
+      short = omega (arith, between_size p found.end text utf8 took, small);
+    }
+
+-- bytes that are known to be a literal are one
+pub literal_known : (bytes : List ℕ) → ∥ IsLiteral bytes ∥₁ → IsLiteral bytes
+literal_known bytes known =
+    let found : Some (place (0 + size (chars bytes)) []) ≡ token_end (place 0 (chars bytes)) = ∥∥₁_elim known (hlevel props) (λ literal. sym (whole_found (chars bytes) literal.is)) in
+    let short : length bytes ≤ 4_294_967_295 = ∥∥₁_elim known (hlevel props) (λ literal. literal.short) in
+    record { is = is_token bytes (place (0 + size (chars bytes)) []) found refl; short = short }

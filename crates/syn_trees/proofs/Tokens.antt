@@ -1,18 +1,17 @@
 -- String tokens: where one stands it is found, whatever follows it, and what is found is one.
-use Rattle.std.proofs.Common.{◌≡◌, ℕ, zero, suc, ◌+◌, ◌-◌, ◌≤◌, true, false, cond, nat_eq, nat_le, Bool, List, [], ◌∷◌, ◌++◌, length, replicate, Option, Some, None, refl, ap, le-leb, ◌∙◌, sym, subst, append_assoc, arith}
+use Rattle.std.proofs.Common.{◌≡◌, ℕ, ◌+◌, false, List, [], ◌∷◌, ◌++◌, replicate, Option, Some, None, refl, ap, ◌∙◌, subst, append_assoc, arith}
 use Rattle.std.specs.Option.{option_map, option_and_then}
-use Rattle.std.proofs.lemmas.Bool.{eqb-true, leb-true}
-use Rattle.std.proofs.lemmas.Option.{option_and_then_some, same_Some}
-use Rattle.text_cut.specs.Runs.{front, size, AllPass}
-use Rattle.text_cut.specs.Place.{Place, place, past, Took}
+use Rattle.std.proofs.lemmas.Option.{same_Some}
+use Rattle.text_cut.specs.Runs.{size}
+use Rattle.text_cut.specs.Place.{Place, place, Took}
 use Rattle.text_cut.specs.Rules.{past_word}
-use Rattle.text_cut.proofs.OptionLaws.{mapped, chosen, none_some}
-use Rattle.text_cut.proofs.Rules.{took_both, past_is, word_is, past_run}
-use Rattle.text_cut.proofs.Runs.{front_is}
+use Rattle.text_cut.proofs.OptionLaws.{mapped, none_some}
+use Rattle.text_cut.proofs.Rules.{took_both, word_is}
 use Rattle.text_cut.proofs.Sizes.{size_append}
 use Rattle.syn_trees.specs.StringToken.{IsPlain, IsRaw, raw_end, Quoting, Plain, Raw, IsQuoted, IsStringToken}
 use Rattle.syn_trees.specs.Literal.{opening}
-use Rattle.syn_trees.specs.ReadString.{Found, closing, marks_of, plain_in, raw_in, found_between, plain_behind, raw_behind, raw_marked, raw_at, found_or, token_at, token_end}
+use Rattle.syn_trees.specs.ReadString.{Found, closing, marks_of, plain_in, raw_in, found_between, plain_behind, raw_from, start_at, raw_start, found_or, token_at, token_end}
+use Rattle.syn_trees.proofs.RawStarts.{marks_size, start_found, StartIs, raw_start_is}
 use Rattle.syn_trees.proofs.Plain.{plain_found, PlainIs, plain_is}
 use Rattle.syn_trees.proofs.Raw.{raw_found, RawIs, raw_is}
 
@@ -25,25 +24,6 @@ found_from quoting from inside rest = record {
   end = place ((from + size inside) + size (closing quoting)) rest;
 }
 
-abbrev is_mark : ℕ → Bool
-is_mark c = nat_eq c 35
-
-marks_pass : (marks : ℕ) → AllPass is_mark (replicate marks 35)
-marks_pass zero = tt
-marks_pass (suc marks) = (refl, marks_pass marks)
-
-pub marks_size : (marks : ℕ) → size (replicate marks 35) ≡ marks
-marks_size zero = refl
-marks_size (suc marks) = omega (arith, marks_size marks)
-
-one_more : (n : ℕ) → 1 + n ≡ suc n
-one_more n = omega arith
-
--- marks are as many as they take bytes
-marks_same : (run : List ℕ) → AllPass is_mark run → replicate (size run) 35 ≡ run
-marks_same [] are = refl
-marks_same (c ∷ run) are = subst (λ d. replicate (size (d ∷ run)) 35 ≡ d ∷ run) (sym (eqb-true c 35 are.0)) (ap (λ (n : ℕ). replicate n 35) (one_more (size run)) ∙ ap (λ l. 35 ∷ l) (marks_same run are.1))
-
 -- a plain token is found
 found_plain : (token inside rest : List ℕ) (at : ℕ) → IsPlain token inside → token_at (place at (token ++ rest)) ≡ Some (found_from Plain (at + 1) inside rest)
 found_plain token inside rest at is =
@@ -51,33 +31,16 @@ found_plain token inside rest at is =
     ∙ (ap (λ l. found_between None (place (at + 1) l) (plain_in false (at + 1) l)) (append_assoc inside (34 ∷ []) rest)
     ∙ ap (λ o. found_between None (place (at + 1) (inside ++ (34 ∷ rest))) o) (plain_found inside rest (at + 1) is.are))
 
--- the place past so many marks
-past_marks : (marks at : ℕ) (rest : List ℕ) → past is_mark (place at (replicate marks 35 ++ (34 ∷ rest))) ≡ place (at + marks) (34 ∷ rest)
-past_marks marks at rest =
-    past_run is_mark (replicate marks 35) (34 ∷ rest) at (record { pass = marks_pass marks; stops = refl }) ∙ ap (λ n. place (at + n) (34 ∷ rest)) (marks_size marks)
-
-few_marks : (marks other : ℕ) → other ≡ marks → marks ≤ 255 → nat_le other 255 ≡ true
-few_marks marks other same few = le-leb other 255 (omega (arith, same, few))
-
--- a raw token is found behind its marks
-found_marked : (marks at : ℕ) (inside rest : List ℕ) → marks ≤ 255 → ((before more : List ℕ) → inside ++ raw_end marks ≡ before ++ (raw_end marks ++ more) → length inside ≤ length before)
-    → raw_marked (place at (replicate marks 35 ++ (34 ∷ (inside ++ (raw_end marks ++ rest))))) (place (at + marks) (34 ∷ (inside ++ (raw_end marks ++ rest)))) ≡ Some (found_from (Raw marks) ((at + marks) + 1) inside rest)
-found_marked marks at inside rest few first =
-    let count : (at + marks) - at ≡ marks = omega arith in
-    let text = inside ++ (raw_end marks ++ rest) in
-    ap (λ b. cond b (option_and_then (raw_behind ((at + marks) - at)) (Some (place ((at + marks) + 1) text))) None) (few_marks marks ((at + marks) - at) count few)
-    ∙ (ap (λ n. raw_behind n (place ((at + marks) + 1) text)) count
-    ∙ ap (λ o. found_between (Some marks) (place ((at + marks) + 1) text) o) (raw_found marks inside rest ((at + marks) + 1) first))
-
 -- a raw token is found
 found_raw : (marks : ℕ) (token inside rest : List ℕ) (at : ℕ) → IsRaw marks token inside → token_at (place at (token ++ rest)) ≡ Some (found_from (Raw marks) (((at + 1) + marks) + 1) inside rest)
 found_raw marks token inside rest at is =
-    let there : (replicate marks 35 ++ (34 ∷ (inside ++ raw_end marks))) ++ rest ≡ replicate marks 35 ++ (34 ∷ (inside ++ (raw_end marks ++ rest))) =
+    let text : List ℕ = inside ++ (raw_end marks ++ rest) in
+    let there : (replicate marks 35 ++ (34 ∷ (inside ++ raw_end marks))) ++ rest ≡ replicate marks 35 ++ (34 ∷ text) =
     append_assoc (replicate marks 35) (34 ∷ (inside ++ raw_end marks)) rest ∙ ap (λ l. replicate marks 35 ++ (34 ∷ l)) (append_assoc inside (raw_end marks) rest) in
     ap (λ l. token_at (place at (l ++ rest))) is.whole
-    ∙ (ap (λ l. raw_at (place (at + 1) l)) there
-    ∙ (ap (λ p. raw_marked (place (at + 1) (replicate marks 35 ++ (34 ∷ (inside ++ (raw_end marks ++ rest))))) p) (past_marks marks (at + 1) (inside ++ (raw_end marks ++ rest)))
-    ∙ found_marked marks (at + 1) inside rest is.few is.first))
+    ∙ (ap (λ l. option_and_then raw_from (start_at (place (at + 1) l))) there
+    ∙ (ap (λ o. option_and_then raw_from o) (start_found marks (at + 1) text is.few)
+    ∙ ap (λ o. found_between (Some marks) (place (((at + 1) + marks) + 1) text) o) (raw_found marks inside rest (((at + 1) + marks) + 1) is.first)))
 
 -- a token is found, whatever follows it
 pub parts_found : (quoting : Quoting) (token inside rest : List ℕ) (at : ℕ) → IsQuoted quoting token inside → token_at (place at (token ++ rest)) ≡ Some (found_from quoting (at + opening quoting) inside rest)
@@ -126,47 +89,35 @@ plain_parts p b found quote_there there = by_ends (plain_in false b.at b.left) r
           between = is.before;
         })
 
-raw_parts_by : (p b q : Place) (marks : ℕ) (found : Found) → marks ≤ 255 → Took p b (114 ∷ []) → Took b q (replicate marks 35 ++ 34 ∷ []) → raw_behind marks q ≡ Some found → PartsAre p found
-raw_parts_by p b q marks found few letter quote_there there = by_ends (raw_in marks q.at q.left) refl there
+raw_parts : (p : Place) (start : ℕ × Place) (found : Found) → StartIs p start → raw_from start ≡ Some found → PartsAre p found
+raw_parts p start found opens there = by_ends (raw_in start.0 start.1.at start.1.left) refl there
   where
-    by_ends : (o : Option (Place × Place)) → raw_in marks q.at q.left ≡ o → found_between (Some marks) q o ≡ Some found → PartsAre p found
+    by_ends : (o : Option (Place × Place)) → raw_in start.0 start.1.at start.1.left ≡ o → found_between (Some start.0) start.1 o ≡ Some found → PartsAre p found
     by_ends None e same = absurd (none_some found same)
     by_ends (Some r) e same =
-        let is : RawIs marks q r = raw_is marks q r e in
+        let is : RawIs start.0 start.1 r = raw_is start.0 start.1 r e in
         subst (λ f. PartsAre p f) (same_Some _ _ same) (record {
-          quoting = Raw marks;
-          token = 114 ∷ ((replicate marks 35 ++ 34 ∷ []) ++ (is.inside ++ raw_end marks));
+          quoting = Raw start.0;
+          token = 114 ∷ ((replicate start.0 35 ++ 34 ∷ []) ++ (is.inside ++ raw_end start.0));
           inside = is.inside;
-          quoted = record { few = few; whole = ap (λ l. 114 ∷ l) (append_assoc (replicate marks 35) (34 ∷ []) (is.inside ++ raw_end marks)); first = is.first };
+          quoted = record { few = opens.few; whole = ap (λ l. 114 ∷ l) (append_assoc (replicate start.0 35) (34 ∷ []) (is.inside ++ raw_end start.0)); first = is.first };
           marks = refl;
-          took = took_both p b r.1 (114 ∷ []) ((replicate marks 35 ++ 34 ∷ []) ++ (is.inside ++ raw_end marks)) letter
-              (took_both b q r.1 (replicate marks 35 ++ 34 ∷ []) (is.inside ++ raw_end marks) quote_there (took_both q r.0 r.1 is.inside (raw_end marks) is.before is.ending));
-          opens = omega (arith, letter.ends, quote_there.ends, size_append (replicate marks 35) (34 ∷ []), marks_size marks);
+          took = took_both p start.1 r.1 (114 ∷ (replicate start.0 35 ++ 34 ∷ [])) (is.inside ++ raw_end start.0) opens.took
+              (took_both start.1 r.0 r.1 is.inside (raw_end start.0) is.before is.ending);
+          opens = omega (arith, opens.took.ends, size_append (replicate start.0 35) (34 ∷ []), marks_size start.0);
           between = is.before;
         })
-
-raw_parts : (p b : Place) (found : Found) → Took p b (114 ∷ []) → raw_at b ≡ Some found → PartsAre p found
-raw_parts p b found letter there =
-    let m : Place = past is_mark b in
-    let run : List ℕ = front is_mark b.left in
-    let count : m.at - b.at ≡ size run = omega arith in
-    let same : replicate (m.at - b.at) 35 ≡ run = ap (λ n. replicate n 35) count ∙ marks_same run (front_is is_mark b.left).pass in
-    chosen (nat_le (m.at - b.at) 255) (option_and_then (raw_behind (m.at - b.at)) (past_word (34 ∷ []) m)) None (Some found) there
-    (λ few behind. option_and_then_some (raw_behind (m.at - b.at)) (past_word (34 ∷ []) m) found behind
-    (λ q quote is. raw_parts_by p b q (m.at - b.at) found (leb-true (m.at - b.at) 255 few) letter
-    (subst (λ l. Took b q (l ++ 34 ∷ [])) (sym same) (took_both b m q run (34 ∷ []) (past_is is_mark b) (word_is (34 ∷ []) m.at m.left q quote))) is))
-    (λ many none. absurd (none_some found none))
 
 -- what is found is a token with its parts
 pub parts_are : (p : Place) (found : Found) → token_at p ≡ Some found → PartsAre p found
 parts_are p found there = by_quote (past_word (34 ∷ []) p) refl there
   where
-    by_letter : (o : Option Place) → past_word (114 ∷ []) p ≡ o → found_or o raw_at None ≡ Some found → PartsAre p found
-    by_letter None e same = absurd (none_some found same)
-    by_letter (Some b) e same = raw_parts p b found (word_is (114 ∷ []) p.at p.left b e) same
+    by_start : (o : Option (ℕ × Place)) → raw_start p ≡ o → option_and_then raw_from o ≡ Some found → PartsAre p found
+    by_start None e same = absurd (none_some found same)
+    by_start (Some start) e same = raw_parts p start found (raw_start_is p start e) same
 
-    by_quote : (o : Option Place) → past_word (34 ∷ []) p ≡ o → found_or o plain_behind (found_or (past_word (114 ∷ []) p) raw_at None) ≡ Some found → PartsAre p found
-    by_quote None e same = by_letter (past_word (114 ∷ []) p) refl same
+    by_quote : (o : Option Place) → past_word (34 ∷ []) p ≡ o → found_or o plain_behind (option_and_then raw_from (raw_start p)) ≡ Some found → PartsAre p found
+    by_quote None e same = by_start (raw_start p) refl same
     by_quote (Some b) e same = plain_parts p b found (word_is (34 ∷ []) p.at p.left b e) same
 
 -- a token stands between two places

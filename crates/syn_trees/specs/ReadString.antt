@@ -65,16 +65,24 @@ plain_behind from = found_between None from (plain_in false from.at from.left)
 abbrev pub raw_behind : ℕ → Place → Option Found
 raw_behind marks from = found_between (Some marks) from (raw_in marks from.at from.left)
 
--- the raw token whose `#` stand between these places
-abbrev pub raw_marked : Place → Place → Option Found
-raw_marked behind_r behind_marks =
+-- the raw token with a start of so many `#`, of which this place is the end
+abbrev pub raw_from : ℕ × Place → Option Found
+raw_from start = raw_behind start.0 start.1
+
+-- how many `#` stand between these places, and the place behind the quote behind them
+abbrev pub start_between : Place → Place → Option (ℕ × Place)
+start_between behind_r behind_marks =
     if nat_le (behind_marks.at - behind_r.at) 255
-    then option_and_then (raw_behind (behind_marks.at - behind_r.at)) (past_word (34 ∷ []) behind_marks)
+    then option_map (λ from. (behind_marks.at - behind_r.at, from)) (past_word (34 ∷ []) behind_marks)
     else None
 
--- the raw token behind whose `r` this place is
-abbrev pub raw_at : Place → Option Found
-raw_at p = raw_marked p (past (λ c. nat_eq c 35) p)
+-- a raw token's start behind its `r`
+abbrev pub start_at : Place → Option (ℕ × Place)
+start_at p = start_between p (past (λ c. nat_eq c 35) p)
+
+-- a raw token's start: how many `#` it has, and the place behind its quote
+abbrev pub raw_start : Place → Option (ℕ × Place)
+raw_start p = option_and_then start_at (past_word (114 ∷ []) p)
 
 -- the first answer, or else the other
 abbrev pub found_or : Option Place → (Place → Option Found) → Option Found → Option Found
@@ -83,7 +91,7 @@ found_or None reader other = other
 
 -- the string token that stands at a place
 abbrev pub token_at : Place → Option Found
-token_at p = found_or (past_word (34 ∷ []) p) plain_behind (found_or (past_word (114 ∷ []) p) raw_at None)
+token_at p = found_or (past_word (34 ∷ []) p) plain_behind (option_and_then raw_from (raw_start p))
 
 -- the characters between two places
 abbrev pub between : Place → Place → List ℕ

@@ -20,6 +20,13 @@ pub record IsPlain (token inside : List ℕ) : Type 0 where
 abbrev pub raw_end : ℕ → List ℕ
 raw_end marks = 34 ∷ replicate marks 35
 
+-- the text begins as a raw token does behind its `r`: so many `#`, 255 at most, and `"`
+pub record OpensRaw (text : List ℕ) : Type 0 where
+  pub marks : ℕ
+  pub more : List ℕ
+  pub few : marks ≤ 255
+  pub is : text ≡ replicate marks 35 ++ 34 ∷ more
+
 -- a raw token: `r`, so many `#` (255 at most), `"`, any characters, and the first end behind them
 pub record IsRaw (marks : ℕ) (token inside : List ℕ) : Type 0 where
   pub few : marks ≤ 255

@@ -8,7 +8,7 @@ ghost use Rattle.syn_trees.specs.ReadString.{ascii_of, ascii_in, hex_number, uni
 
 use crate::EscapeError;
 use std::alloc::Global;
-use text_cut::{Cursor, begin, eat, eat_while, first_char, is_at_end, next, text_between};
+use text_cut::{Cursor, begin, eat_char, eat_while, first_char, is_at_end, next, text_between};
 
 // The character that a letter stands for behind a `\`.
 fn letter(c: char) -> Option<char>
@@ -24,24 +24,6 @@ fn letter(c: char) -> Option<char>
         '"' => Some('"'),
         _ => None,
     }
-}
-
-// The place behind an opening brace.
-#[tactic(auto, using(crate::proofs::Words::words))]
-fn open_brace(here: Cursor<'_>) -> Option<Cursor<'_>>
-    ensures value { option_map seen result ≡ past_word (123 ∷ []) (seen here.entry) }
-    ensures shorter { IfSome result (λ e. length e.rest.now + 1 ≤ length here.entry.rest.now) }
-{
-    eat(here, "{")
-}
-
-// The place behind a closing brace.
-#[tactic(auto, using(crate::proofs::Words::words))]
-fn close_brace(here: Cursor<'_>) -> Option<Cursor<'_>>
-    ensures value { option_map seen result ≡ past_word (125 ∷ []) (seen here.entry) }
-    ensures shorter { IfSome result (λ e. length e.rest.now + 1 ≤ length here.entry.rest.now) }
-{
-    eat(here, "}")
 }
 
 // The place behind the blanks and line feeds that stand here.
@@ -118,7 +100,7 @@ fn unicode_behind(here: Cursor<'_>) -> Option<(Option<char>, Cursor<'_>)>
     ensures shorter { IfSome result (λ r. length r.1.rest.now + 1 ≤ length here.entry.rest.now) }
 {
     let end = digits_end(here);
-    let behind = close_brace(end)?;
+    let behind = eat_char(end, '}')?;
     let c = unicode_of(text_between(here, end))?;
     Some((Some(c), behind))
 }
@@ -128,7 +110,7 @@ fn unicode(here: Cursor<'_>) -> Option<(Option<char>, Cursor<'_>)>
     ensures value { option_map (λ r. (r.0, seen r.1)) result ≡ unicode_at (seen here.entry) }
     ensures shorter { IfSome result (λ r. length r.1.rest.now + 1 ≤ length here.entry.rest.now) }
 {
-    unicode_behind(open_brace(here)?)
+    unicode_behind(eat_char(here, '{')?)
 }
 
 // What an escape stands for, behind its `\`: a character, or nothing.

@@ -3,9 +3,11 @@ ghost use Rattle.text_cut.specs.Place.{past};
 ghost use Rattle.text_cut.specs.Rules.{past_word};
 ghost use Rattle.text_cut.specs.Seen.{seen};
 ghost use Rattle.syn_trees.specs.StringToken.{raw_end};
-ghost use Rattle.syn_trees.specs.ReadString.{found_of, plain_in, raw_in, plain_behind, raw_behind, raw_marked, raw_at, token_at, token_end};
+ghost use Rattle.syn_trees.specs.ReadString.{found_of, plain_in, raw_in, plain_behind, raw_behind, start_at, raw_start, token_at, token_end};
+ghost use Rattle.syn_trees.specs.ReadQuoted.{str_of, str_at};
 
-use text_cut::{Cursor, eat, eat_while, next};
+use crate::str_token::StrToken;
+use text_cut::{Cursor, eat_char, eat_while, next, text_between};
 
 /// A string token that was found.
 #[derive(Clone, Copy, Drop)]
@@ -18,33 +20,6 @@ pub(crate) struct Quoted<'a> {
     pub(crate) to: Cursor<'a>,
     /// The place behind it.
     pub(crate) end: Cursor<'a>,
-}
-
-// The place behind a quote.
-#[tactic(auto, using(crate::proofs::Words::words))]
-fn quote(here: Cursor<'_>) -> Option<Cursor<'_>>
-    ensures value { option_map seen result ≡ past_word (34 ∷ []) (seen here.entry) }
-    ensures shorter { IfSome result (λ e. length e.rest.now + 1 ≤ length here.entry.rest.now) }
-{
-    eat(here, "\"")
-}
-
-// The place behind an `r`.
-#[tactic(auto, using(crate::proofs::Words::words))]
-fn raw_letter(here: Cursor<'_>) -> Option<Cursor<'_>>
-    ensures value { option_map seen result ≡ past_word (114 ∷ []) (seen here.entry) }
-    ensures shorter { IfSome result (λ e. length e.rest.now + 1 ≤ length here.entry.rest.now) }
-{
-    eat(here, "r")
-}
-
-// The place behind a `#`.
-#[tactic(auto, using(crate::proofs::Words::words))]
-fn mark(here: Cursor<'_>) -> Option<Cursor<'_>>
-    ensures value { option_map seen result ≡ past_word (35 ∷ []) (seen here.entry) }
-    ensures shorter { IfSome result (λ e. length e.rest.now + 1 ≤ length here.entry.rest.now) }
-{
-    eat(here, "#")
 }
 
 // The place behind all the `#` that stand here.
@@ -77,9 +52,9 @@ fn raw_end(here: Cursor<'_>, marks: u32) -> Option<Cursor<'_>>
     ensures value { option_map seen result ≡ past_word (raw_end marks) (seen here.entry) }
     ensures shorter { IfSome result (λ e. length e.rest.now + 1 ≤ length here.entry.rest.now) }
 {
-    let mut end = quote(here)?;
+    let mut end = eat_char(here, '"')?;
     for _ in 0..marks {
-        end = mark(end)?;
+        end = eat_char(end, '#')?;
     }
     Some(end)
 }
@@ -127,17 +102,32 @@ fn raw_behind(from: Cursor<'_>, marks: u32) -> Option<Quoted<'_>>
     })
 }
 
-// The raw token behind whose `r` this place is.
-fn raw_token(here: Cursor<'_>) -> Option<Quoted<'_>>
-    ensures value { option_map found_of result ≡ raw_at (seen here.entry) }
-    ensures shorter { IfSome result (λ q. length q.end.rest.now + 1 ≤ length here.entry.rest.now) }
+// How many `#` the start of a raw token has behind its `r`, and the place behind its quote.
+fn start_behind(here: Cursor<'_>) -> Option<(u32, Cursor<'_>)>
+    ensures value { option_map (λ r. (r.0, seen r.1)) result ≡ start_at (seen here.entry) }
+    ensures shorter { IfSome result (λ r. length r.1.rest.now + 1 ≤ length here.entry.rest.now) }
 {
     let end = marks_end(here);
     let marks = end.at - here.at;
     if marks > 255 {
         return None;
     }
-    raw_behind(quote(end)?, marks)
+    Some((marks, eat_char(end, '"')?))
+}
+
+/// Returns how many `#` the start of a raw string token has that stands here, and the place behind its quote; `None` where none
+/// stands here.
+///
+/// ```
+/// let (marks, from) = raw_start(begin("r#\"a")).unwrap();
+/// assert_eq!((marks, from.rest), (1, "a"));
+/// assert!(raw_start(begin("r#a")).is_none());
+/// ```
+pub fn raw_start(here: Cursor<'_>) -> Option<(u32, Cursor<'_>)>
+    ensures value { option_map (λ r. (r.0, seen r.1)) result ≡ raw_start (seen here.entry) }
+    ensures shorter { IfSome result (λ r. length r.1.rest.now + 1 ≤ length here.entry.rest.now) }
+{
+    start_behind(eat_char(here, 'r')?)
 }
 
 /// The string token that stands at a place.
@@ -145,10 +135,11 @@ pub(crate) fn token(here: Cursor<'_>) -> Option<Quoted<'_>>
     ensures value { option_map found_of result ≡ token_at (seen here.entry) }
     ensures shorter { IfSome result (λ q. length q.end.rest.now + 1 ≤ length here.entry.rest.now) }
 {
-    if let Some(from) = quote(here) {
+    if let Some(from) = eat_char(here, '"') {
         return plain_behind(from);
     }
-    raw_token(raw_letter(here)?)
+    let (marks, from) = raw_start(here)?;
+    raw_behind(from, marks)
 }
 
 /// Returns the place behind the string token that stands here; `None` where none stands here.
@@ -164,4 +155,55 @@ pub fn string_token(here: Cursor<'_>) -> Option<Cursor<'_>>
 {
     let token = token(here)?;
     Some(token.end)
+}
+
+/// Returns the string token that stands here, and the place behind it; `None` where none stands here.
+///
+/// ```
+/// let (token, end) = lex_string(begin("r#\"a\\n\"#b")).unwrap();
+/// assert_eq!((token.text, token.inside, end.at), ("r#\"a\\n\"#", "a\\n", 8));
+/// ```
+pub fn lex_string<'a>(here: Cursor<'a>) -> Option<(StrToken<'a>, Cursor<'a>)>
+    ensures value { option_map (λ r. (str_of r.0, seen r.1)) result ≡ str_at (seen here.entry) }
+    ensures shorter { IfSome result (λ r. length r.1.rest.now + 1 ≤ length here.entry.rest.now) }
+{
+    let found = token(here)?;
+    let token = StrToken {
+        text: text_between(here, found.end),
+        inside: text_between(found.from, found.to),
+    };
+    Some((token, found.end))
+}
+
+#[cfg(test)]
+mod tests {
+    use super::*;
+    use text_cut::begin;
+
+    #[test]
+    fn finds_the_ends_of_tokens(rt: HostRuntime) {
+        let end = string_token(begin("\"a\"b")).expect(&rt, "a plain token");
+        assert_eq!(rt; (end.at, end.rest), (3, "b"), "behind the token");
+        assert!(rt; string_token(begin("b\"a\"")).is_none(), "no string token");
+    }
+
+    #[test]
+    fn finds_raw_starts(rt: HostRuntime) {
+        let (marks, from) = raw_start(begin("r#\"a")).expect(&rt, "a start");
+        assert_eq!(rt;
+            (marks, from.rest),
+            (1, "a"),
+            "its `#`, and what follows it"
+        );
+        assert!(rt; raw_start(begin("r#a")).is_none(), "no quote");
+    }
+
+    #[test]
+    fn finds_string_tokens(rt: HostRuntime) {
+        let (token, end) = lex_string(begin("r#\"a\\n\"#b")).expect(&rt, "a raw token");
+        assert_eq!(rt; token.text, "r#\"a\\n\"#", "with its quotes");
+        assert_eq!(rt; token.inside, "a\\n", "as written");
+        assert_eq!(rt; end.at, 8, "behind the token");
+        assert!(rt; lex_string(begin("b\"a\"")).is_none(), "no string token");
+    }
 }

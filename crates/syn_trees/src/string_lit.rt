@@ -8,6 +8,7 @@ ghost use Rattle.syn_trees.specs.ReadString.{found_of, PartsOf};
 
 use crate::escape::unescape;
 use crate::quoted::{Quoted, string_token, token};
+use crate::str_token::StrToken;
 use std::alloc::{AllocError, Global};
 use std::fmt;
 use std::marker::Model;
@@ -129,6 +130,16 @@ impl StringLit {
             return None;
         }
         Some(StringLit { token })
+    }
+
+    /// Returns the literal of a string token that was found in a text; nothing is tested again.
+    ///
+    /// Of the token at the start of `"a" b` it is `"a"`.
+    pub fn of_token(alloc: Global, token: StrToken<'_>) -> Result<StringLit, AllocError>
+        ensures { IfOk result (λ literal. literal ≡ token.entry.text.now) }
+    {
+        let token = Symbol::new(alloc, token.text)?;
+        Ok(StringLit { token })
     }
 
     /// Returns the whole token, with its quotes, as it was given to [`new`](StringLit::new).

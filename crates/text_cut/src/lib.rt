@@ -7,6 +7,6 @@ mod walk;
 
 pub use cursor::Cursor;
 pub use walk::{
-    begin, begins_with, blanks, eat, eat_while, first_char, is_at_end, next, peek, starts_with,
-    text_between,
+    begin, begins_with, blanks, eat, eat_char, eat_while, first_char, is_at_end, next, peek,
+    starts_with, text_between,
 };

@@ -77,6 +77,21 @@ pub fn starts_with(here: Cursor<'_>, c: char) -> bool
     }
 }
 
+/// The place behind this character; none where it does not stand here.
+///
+/// `eat_char(begin("ab"), 'a')` is at byte 1, and `eat_char(begin("ab"), 'b')` is none.
+pub fn eat_char(here: Cursor<'_>, c: char) -> Option<Cursor<'_>>
+    ensures value { option_map seen result ≡ past_word (c ∷ []) (seen here.entry) }
+    ensures behind { IfSome result (λ e. IsBehind (seen here.entry) (seen e)) }
+    ensures shorter { IfSome result (λ e. length e.rest.now + 1 ≤ length here.entry.rest.now) }
+{
+    let (d, behind) = next(here)?;
+    if d != c {
+        return None;
+    }
+    Some(behind)
+}
+
 /// The place behind a word that stands here; none where it does not stand here whole.
 ///
 /// `eat(begin("opt unix"), "opt")` is at byte 3, and `eat(begin("op"), "opt")` is none.
@@ -169,6 +184,8 @@ mod tests {
             eat(start, "op7").is_none(),
             "a word that does not stand there"
         );
+        assert_eq!(rt; eat_char(begin("ab"), 'a').map(|end| end.at), Some(1));
+        assert!(rt; eat_char(begin("ab"), 'b').is_none(), "another character");
         assert_eq!(rt; peek(start), Some('o'), "the first character");
         assert_eq!(rt; blanks(begin(" \t\r\n")).at, 3, "a line feed is no blank");
         assert_eq!(rt; first_char("éa"), Some(('é', "a")), "and what follows it");

@@ -1,9 +1,0 @@
-pub mod Letters
-pub mod Frames
-pub mod Characters
-pub mod Opens
-pub mod Spellings
-pub mod Tokens
-pub mod Groups
-pub mod ReadTrees
-pub mod Before
