@@ -62,4 +62,4 @@ pub record Answers (bytes : List ℕ) (session : Session) : Type 0 where
 
 -- the printed form of a session
 abbrev pub output_of : Session → List ℕ
-output_of session = printed session.collector.store session.outcomes.items
+output_of session = printed session.collector.store session.options session.outcomes.items

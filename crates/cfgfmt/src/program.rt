@@ -100,7 +100,7 @@ fn lower(alloc: Global, script: Script, session: &mut Session) -> Result<Vec<u8>
         Err(LowerError::Memory(_)) => return Err(Refusal::Memory),
         Err(LowerError::ArenaFull) => return Err(Refusal::ArenaFull),
     };
-    let output = match print_outcomes(alloc, collector.store(), &outcomes) {
+    let output = match print_outcomes(alloc, collector.store(), &options, &outcomes) {
         Ok(output) => output,
         Err(_) => return Err(Refusal::Memory),
     };

@@ -5,6 +5,52 @@ use super::*;
 use std::alloc::{AllocError, Global};
 use std::test::Fail;
 
+// Why calls are off, and what switches them on.
+#[test]
+fn tells_reasons_and_hints(rt: HostRuntime) -> Result<(), Fail> {
+    let cases = [
+        // No conjunction at all; and the atom that nothing can set.
+        ("cfg any()", "0 off\n0 reason\n"),
+        ("cfg false", "0 off\n0 reason false is disabled\n"),
+        (
+            "opt b\ncfg all(a, not(b))",
+            "0 off\n0 reason b is enabled and a is disabled\n0 hint enable a; disable b\n",
+        ),
+        (
+            "cfg all(any(a, b), c)",
+            "0 off\n0 reason a, b and c are disabled\n0 hint enable a and c\n0 hint enable b and c\n",
+        ),
+        // Predicates are taken together, and a hint makes each of them true.
+        (
+            "cfg a\nattr any(b, c)",
+            "0 off\n0 reason a, b and c are disabled\n0 hint enable a and b\n0 hint enable a and c\n",
+        ),
+        // What contradicts itself gives no hint, and what is no predicate no reason.
+        ("cfg all(a, not(a))", "0 off\n0 reason a is disabled\n"),
+        ("cfg all(a, 5)", "0 off\n"),
+        // A version without an answer is open; one whose answer is no stays as it is.
+        ("cfg all(a, version(\"1\"))", "0 off\n"),
+        (
+            "version \"1\" no\ncfg any(a, version(\"1\"))",
+            "0 off\n0 reason a is disabled\n0 hint enable a\n",
+        ),
+        (
+            "version \"1\" yes\nattr all(a, version(\"1\"))",
+            "0 off\n0 reason a is disabled\n0 hint enable a\n",
+        ),
+    ];
+    for (predicates, want) in cases {
+        let script = format!(in rt.alloc(); "{predicates}\nformat \"\"")?;
+        let want = format!(in rt.alloc(); "0 1\n{want}")?;
+        assert_eq!(rt;
+            told_of(rt.alloc(), script.as_str())?.as_str(),
+            want.as_str(),
+            "of the predicates {predicates}"
+        );
+    }
+    Ok(())
+}
+
 // Texts with placeholders of every kind; what they refer to may be written, captured, or not there.
 #[test]
 fn prints_code(rt: HostRuntime) -> Result<(), Fail> {
@@ -192,7 +238,7 @@ fn lowers_arguments(rt: HostRuntime) -> Result<(), Fail> {
         // A script as people write it.
         (
             "opt unix\nopt debug_assertions\nopt test\nopt target_os = \"linux\"\nopt target_arch = \"x86_64\"\nopt feature = \"net\"\ncfg all(unix, feature = \"net\")\nformat \"{name:>8}: {:?}\\n\" @1\ncfg windows\nformat \"{0:02x}\\n\" @2\n",
-            "0 2\n0 code { let #0 = (&@1, &name); let #0 = [Argument::new_display(#0.1), Argument::new_debug(#0.0)]; unsafe { Arguments::new(b\"C3200000280800023A20C0010A00\", &#0) } }\n1 off\n",
+            "0 2\n0 code { let #0 = (&@1, &name); let #0 = [Argument::new_display(#0.1), Argument::new_debug(#0.0)]; unsafe { Arguments::new(b\"C3200000280800023A20C0010A00\", &#0) } }\n1 off\n1 reason windows is disabled\n1 hint enable windows\n",
         ),
     ];
     for (script, want) in cases {

@@ -66,6 +66,8 @@ format "q"
             r#"0 2
 0 code { let #0 = (&@1,); let #0 = [Argument::new_display(#0.0)]; unsafe { Arguments::new(b"0178C002797B00", &#0) } }
 1 off
+1 reason b is disabled
+1 hint enable b
 "#,
         ),
         (
@@ -102,6 +104,8 @@ format ""
             r#"0 2
 0 code Arguments::from_str(s"610A62")
 1 off
+1 reason é is disabled
+1 hint enable é
 "#,
         ),
     ];
@@ -126,12 +130,12 @@ fn gates_calls_by_their_predicates(rt: HostRuntime) -> Result<(), Fail> {
         // Each predicate by itself, and for the next call alone.
         (
             "opt a\ncfg a\ncfg b\nformat \"\"\nformat \"\"",
-            "0 2\n0 off\n1 code Arguments::from_str(s\"\")\n",
+            "0 2\n0 off\n0 reason b is disabled\n0 hint enable b\n1 code Arguments::from_str(s\"\")\n",
         ),
         // What has a reserved name or key changes nothing: `true` is set, and nothing sets `false`.
         (
             "opt true = \"x\"\nopt false\ncfg true\nformat \"\"\ncfg false\nformat \"\"",
-            "0 2\n0 code Arguments::from_str(s\"\")\n1 off\n",
+            "0 2\n0 code Arguments::from_str(s\"\")\n1 off\n1 reason false is disabled\n",
         ),
         // A part that is no predicate decides nothing, and `all` goes on behind it.
         (
@@ -141,11 +145,11 @@ fn gates_calls_by_their_predicates(rt: HostRuntime) -> Result<(), Fail> {
         // Of token trees, `not` reads its first part; as syntax it has one part or is no predicate.
         (
             "opt a\ncfg not(a, b)\nformat \"\"\nattr not(a, b)\nformat \"\"",
-            "0 2\n0 off\n1 code Arguments::from_str(s\"\")\n",
+            "0 2\n0 off\n0 reason a is enabled\n0 hint disable a\n1 code Arguments::from_str(s\"\")\n",
         ),
         (
             "opt k = \"v\"\ncfg k = \"v\"\nformat \"\"\nattr k = r\"w\"\nformat \"\"",
-            "0 2\n0 code Arguments::from_str(s\"\")\n1 off\n",
+            "0 2\n0 code Arguments::from_str(s\"\")\n1 off\n1 reason k = \"w\" is disabled\n1 hint enable k = \"w\"\n",
         ),
         // Each predicate is looked at by itself: what evaluates to nothing switches nothing on.
         ("cfg 5\ncfg false\nformat \"\"", "0 1\n0 off\n"),
@@ -156,7 +160,7 @@ fn gates_calls_by_their_predicates(rt: HostRuntime) -> Result<(), Fail> {
         ),
         (
             "version \"9.0\" no\nattr version(\"9.0\")\nformat \"\"\ncfg any(version(\"2\"), a)\nformat \"\"",
-            "0 2\n0 off\n1 code Arguments::from_str(s\"\")\n",
+            "0 2\n0 off\n0 reason\n1 code Arguments::from_str(s\"\")\n",
         ),
     ];
     for (script, want) in cases {
@@ -204,8 +208,12 @@ format ""
     let want = r#"0 4
 0 code { let #0 = (&@1,); let #0 = [Argument::new_display(#0.0)]; unsafe { Arguments::new(b"C0072062797465730A00", &#0) } }
 1 off
+1 reason windows is disabled
+1 hint enable windows
 2 code { let #1 = (&@3,); let #1 = [Argument::new_display(#1.0)]; unsafe { Arguments::new(b"057769646520C000", &#1) } }
 3 off
+3 reason debug_assertions is enabled
+3 hint disable debug_assertions
 "#;
     assert_eq!(rt; told_of(rt.alloc(), script)?.as_str(), want);
     Ok(())
@@ -250,9 +258,17 @@ fn nested(alloc: Global, keyword: &str, depth: usize) -> Result<String, AllocErr
 #[test]
 fn nests_to_a_depth_of_128(rt: HostRuntime) -> Result<(), Fail> {
     let cases = [
-        ("cfg", 128, "0 1\n0 off\n"),
+        (
+            "cfg",
+            128,
+            "0 1\n0 off\n0 reason a is disabled\n0 hint enable a\n",
+        ),
         ("cfg", 129, "3 0\nerror syntax at line 1\n"),
-        ("attr", 128, "0 1\n0 off\n"),
+        (
+            "attr",
+            128,
+            "0 1\n0 off\n0 reason a is disabled\n0 hint enable a\n",
+        ),
         ("attr", 129, "3 0\nerror syntax at line 1\n"),
     ];
     for (keyword, depth, want) in cases {

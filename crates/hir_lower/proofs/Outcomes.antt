@@ -74,7 +74,7 @@ pub lowers_grow : (options : OptionSet) (around : Surroundings) (calls : List Ga
 lowers_grow options around [] [] old new same = (0, subst (λ frame. Builds old frame 0 0) (sym same) (builds_none old))
 lowers_grow options around [] (outcome ∷ outcomes) old new were = absurd were
 lowers_grow options around (call ∷ calls) [] old new were = absurd were
-lowers_grow options around (call ∷ calls) (Off ∷ outcomes) old new were =
+lowers_grow options around (call ∷ calls) (Off why dnf ∷ outcomes) old new were =
     let rest = lowers_grow options around calls outcomes were.0 new were.2 in
     (rest.0, subst (λ frame. Builds frame new rest.0 (lets_of options call + most_lets options calls)) were.1.1 (builds_within rest.1 (omega arith) (omega arith)))
 lowers_grow options around (call ∷ calls) (Code id ∷ outcomes) old new were =
@@ -86,21 +86,21 @@ pub outcomes_are : (options : OptionSet) (around : Surroundings) (calls : List G
 outcomes_are options around [] [] old new were = tt
 outcomes_are options around [] (outcome ∷ outcomes) old new were = were
 outcomes_are options around (call ∷ calls) [] old new were = were
-outcomes_are options around (call ∷ calls) (Off ∷ outcomes) old new were = (were.1.0, outcomes_are options around calls outcomes were.0 new were.2)
+outcomes_are options around (call ∷ calls) (Off why dnf ∷ outcomes) old new were = (were.1.0, outcomes_are options around calls outcomes were.0 new were.2)
 outcomes_are options around (call ∷ calls) (Code id ∷ outcomes) old new were =
     let grown = lowers_grow options around calls outcomes were.0 new were.2 in
     ((were.1.0, code_later grown.1 around call.call id were.1.1.code), outcomes_are options around calls outcomes were.0 new were.2)
 
 rising_lower : (least more : ℕ) (outcomes : List Outcome) → least ≤ more → AreRising more outcomes → AreRising least outcomes
 rising_lower least more [] le are = tt
-rising_lower least more (Off ∷ outcomes) le are = rising_lower least more outcomes le are
+rising_lower least more (Off why dnf ∷ outcomes) le are = rising_lower least more outcomes le are
 rising_lower least more (Code id ∷ outcomes) le are = (omega (arith, le, are.0), are.1)
 
 pub rising_are : (options : OptionSet) (around : Surroundings) (calls : List GatedCall) (outcomes : List Outcome) (old new : Frame) → Lowers options around calls outcomes old new → AreRising (length old.store.exprs) outcomes
 rising_are options around [] [] old new were = tt
 rising_are options around [] (outcome ∷ outcomes) old new were = absurd were
 rising_are options around (call ∷ calls) [] old new were = absurd were
-rising_are options around (call ∷ calls) (Off ∷ outcomes) old new were =
+rising_are options around (call ∷ calls) (Off why dnf ∷ outcomes) old new were =
     subst (λ (frame : Frame). AreRising (length frame.store.exprs) outcomes) were.1.1 (rising_are options around calls outcomes were.0 new were.2)
 rising_are options around (call ∷ calls) (Code id ∷ outcomes) old new were =
     (were.1.1.later, rising_lower (suc (place_of id)) (length were.0.store.exprs) outcomes (omega (arith, were.1.1.within)) (rising_are options around calls outcomes were.0 new were.2))
@@ -109,7 +109,7 @@ pub in_store_are : (options : OptionSet) (around : Surroundings) (calls : List G
 in_store_are options around [] [] old new were = tt
 in_store_are options around [] (outcome ∷ outcomes) old new were = absurd were
 in_store_are options around (call ∷ calls) [] old new were = absurd were
-in_store_are options around (call ∷ calls) (Off ∷ outcomes) old new were = (tt, in_store_are options around calls outcomes were.0 new were.2)
+in_store_are options around (call ∷ calls) (Off why dnf ∷ outcomes) old new were = (tt, in_store_are options around calls outcomes were.0 new were.2)
 in_store_are options around (call ∷ calls) (Code id ∷ outcomes) old new were =
     let grown = lowers_grow options around calls outcomes were.0 new were.2 in
     let more = longer grown.1 in

@@ -1,13 +1,16 @@
 -- What the outcomes of calls are: each call is off exactly where one of its predicates evaluates to false; else it has code. The evaluation of
 -- the code of a well formed call runs through, and its value means what the call's text asks for.
-use Rattle.std.specs.Prelude.{◌≡◌, ◌⊎◌, ℕ, ◌+◌, ◌*◌, ◌<◌, ◌≤◌, true, false, cond, suc, IsTrue, List, [], ◌∷◌, length, map}
+use Rattle.std.specs.Prelude.{◌≡◌, ◌⊎◌, ℕ, ◌+◌, ◌*◌, ◌<◌, ◌≤◌, true, false, cond, suc, IsTrue, List, [], ◌∷◌, length, map, Option}
 use Rattle.hir_store.specs.declared.ids.ExprId.{ExprId}
 use Rattle.hir_store.specs.declared.store.ExpressionStore.{ExpressionStore}
 use Rattle.hir_store.specs.Unfolding.{place_of, tree_at}
 use Rattle.code_meaning.specs.Write.{Write}
 use Rattle.code_meaning.specs.Value.{At}
 use Rattle.ra_cfg.specs.Options.{OptionSet}
+use Rattle.ra_cfg.specs.declared.cfg_expr.CfgExpr.{CfgExpr}
 use Rattle.ra_cfg.specs.Reading.{is_off}
+use Rattle.cfg_dnf.specs.Hints.{Reason, reason}
+use Rattle.cfg_dnf.specs.Joined.{joined}
 use Rattle.syn_trees.specs.declared.format_call.FormatCall.{FormatCall}
 use Rattle.gated_calls.specs.declared.call.GatedCall.{GatedCall}
 use Rattle.gated_calls.specs.declared.call.Call.{Call}
@@ -39,9 +42,15 @@ pub record IsFormatCode (around : Surroundings) (store : ExpressionStore) (call 
 abbrev pub IsCode : Surroundings → ExpressionStore → Call → ExprId → Type 0
 IsCode around store (Format call) id = IsFormatCode around store call id
 
+-- a call is off: one of its predicates, by itself, evaluates to false; why, and what is told of its predicates taken together
+pub record IsOff (options : OptionSet) (call : GatedCall) (why : Option Reason) (dnf : CfgExpr) : Type 0 where
+  pub off : is_off options call.cfgs ≡ true
+  pub joins : dnf ≡ joined call.cfgs
+  pub reason : why ≡ reason options (joined call.cfgs)
+
 -- what becomes of a call under options: off exactly where one of its predicates, each by itself, evaluates to false; else code
 abbrev pub IsOutcome : OptionSet → Surroundings → ExpressionStore → GatedCall → Outcome → Type 0
-IsOutcome options around store call Off = is_off options call.cfgs ≡ true
+IsOutcome options around store call (Off why dnf) = IsOff options call why dnf
 IsOutcome options around store call (Code id) = (is_off options call.cfgs ≡ false) × IsCode around store call.call id
 
 -- one outcome for each call, in order
@@ -54,17 +63,17 @@ AreOutcomes options around store (call ∷ calls) (outcome ∷ outcomes) = IsOut
 -- the places of the codes rise strictly, and none is below the least
 abbrev pub AreRising : ℕ → List Outcome → Type 0
 AreRising least [] = Unit {0}
-AreRising least (Off ∷ outcomes) = AreRising least outcomes
+AreRising least (Off why dnf ∷ outcomes) = AreRising least outcomes
 AreRising least (Code id ∷ outcomes) = (least ≤ place_of id) × AreRising (suc (place_of id)) outcomes
 
 -- the code of an outcome is at this place or behind it
 abbrev pub IsFrom : ℕ → Outcome → Type 0
-IsFrom least Off = Unit {0}
+IsFrom least (Off why dnf) = Unit {0}
 IsFrom least (Code id) = least ≤ place_of id
 
 -- the code of an outcome is in the store
 abbrev pub IsInStore : ExpressionStore → Outcome → Type 0
-IsInStore store Off = Unit {0}
+IsInStore store (Off why dnf) = Unit {0}
 IsInStore store (Code id) = place_of id < length store.exprs
 
 -- each code of the outcomes is in the store
@@ -113,7 +122,7 @@ pub record PlacesCall (around : Surroundings) (old : Frame) (call : Call) (id : 
 
 -- a gated call was lowered: an off call leaves all as it was; the code of any other was placed
 abbrev pub LowersCall : OptionSet → Surroundings → GatedCall → Outcome → Frame → Frame → Type 0
-LowersCall options around call Off old new = (is_off options call.cfgs ≡ true) × (new ≡ old)
+LowersCall options around call (Off why dnf) old new = IsOff options call why dnf × (new ≡ old)
 LowersCall options around call (Code id) old new = (is_off options call.cfgs ≡ false) × PlacesCall around old call.call id new
 
 -- calls were lowered one after the other, with one outcome each: every call takes what the calls in front of it left

@@ -35,7 +35,7 @@ use syn_trees::{FormatCall, StringLit, Template};
 /// ```
 /// let mut collector = ExprCollector::new(alloc, &macros, file, 128, items);
 /// let outcomes = collector.collect_gated(alloc, &calls, &options, &macros)?;
-/// assert!(rt; matches!(outcomes.as_slice(), [Outcome::Off, Outcome::Code(_)]));
+/// assert!(rt; matches!(outcomes.as_slice(), [Outcome::Off { .. }, Outcome::Code(_)]));
 /// assert_eq!(rt; collector.store().exprs.len(), 3);
 /// ```
 ///

@@ -61,7 +61,8 @@ impl Lowering {
     {
         let gate = self.expander.is_cfg_enabled(call.cfgs.as_slice(), opts);
         if gate.is_err() {
-            return Ok(Outcome::Off);
+            let outcome = Outcome::off(alloc, call.cfgs.as_slice(), opts)?;
+            return Ok(outcome);
         }
         let code = self.lower_call(alloc, &call.call, macros)?;
         Ok(Outcome::Code(code))

@@ -2,6 +2,7 @@ use hir_expander::{MAX_RECURSION_LIMIT, MacroTable};
 use hir_lower::{ExprCollector, Outcome};
 use hir_store::LangItems;
 use printer::print_outcomes;
+use ra_cfg::CfgOptions;
 use sqlite_items::Items;
 use std::alloc::{AllocError, Global};
 use std::test::Fail;
@@ -119,5 +120,6 @@ pub(crate) fn printed(
     call: &FormatCall,
 ) -> Result<Vec<u8>, Fail> {
     let code = collector.collect_format_args(alloc, call, macros)?;
-    Ok(print_outcomes(alloc, collector.store(), &[Outcome::Code(code)])?)
+    let options = CfgOptions::new(alloc)?;
+    Ok(print_outcomes(alloc, collector.store(), &options, &[Outcome::Code(code)])?)
 }

@@ -34,7 +34,7 @@ fn lowered(alloc: Global, calls: &[GatedCall]) -> Result<(usize, Vec<u8>), Fail>
     let mut collector = collector(alloc, &macros, 1, ITEMS);
     let outcomes = collector.collect_gated(alloc, calls, &options, &macros)?;
     let store = collector.store();
-    let printed = print_outcomes(alloc, store, outcomes.as_slice())?;
+    let printed = print_outcomes(alloc, store, &options, outcomes.as_slice())?;
     Ok((store.exprs.len(), printed))
 }
 
@@ -69,7 +69,10 @@ fn places_nothing_for_calls_that_are_off(rt: HostRuntime) -> Result<(), Fail> {
     ];
     let (placed, printed) = lowered(alloc, &calls)?;
     assert_eq!(rt; placed, 0);
-    assert_eq!(rt; printed.as_slice(), b"0 off\n1 off\n".as_slice());
+    assert_eq!(rt;
+        printed.as_slice(),
+        b"0 off\n0 reason windows is disabled\n0 hint enable windows\n1 off\n1 reason windows is disabled\n1 hint enable windows\n".as_slice()
+    );
     Ok(())
 }
 
@@ -89,7 +92,7 @@ fn lowers_calls_in_order(rt: HostRuntime) -> Result<(), Fail> {
     let (placed, printed) = lowered(alloc, &calls)?;
     assert!(rt; placed > 0);
     let want =
-        "0 code { let #0 = (&@7,); let #0 = [Argument::new_display(#0.0)]; unsafe { Arguments::new(b\"C320000068050000\", &#0) } }\n1 off\n2 code unsafe { Arguments::new(b\"C000\", &[]) }\n3 code { let #1 = (&x,); let #1 = [Argument::new_display(#1.0)]; unsafe { Arguments::new(b\"C000\", &#1) } }\n3 use x 2..3\n4 code { @1; Arguments::from_str(s\"\") }\n5 code Arguments::from_str(s\"6869\")\n";
+        "0 code { let #0 = (&@7,); let #0 = [Argument::new_display(#0.0)]; unsafe { Arguments::new(b\"C320000068050000\", &#0) } }\n1 off\n1 reason windows is disabled\n1 hint enable windows\n2 code unsafe { Arguments::new(b\"C000\", &[]) }\n3 code { let #1 = (&x,); let #1 = [Argument::new_display(#1.0)]; unsafe { Arguments::new(b\"C000\", &#1) } }\n3 use x 2..3\n4 code { @1; Arguments::from_str(s\"\") }\n5 code Arguments::from_str(s\"6869\")\n";
     assert_eq!(rt; printed.as_slice(), want.as_bytes());
     Ok(())
 }

@@ -11,6 +11,7 @@ use hir_lower::Outcome;
 use hir_store::ExprId;
 use la_arena::RawIdx;
 use printer::print_outcomes;
+use ra_cfg::CfgOptions;
 use std::alloc::{AllocError, Global};
 use std::test::Fail;
 use sym_core::Symbol;
@@ -80,7 +81,8 @@ fn printed_template(alloc: Global, token: &str, count: u32) -> Result<Vec<u8>, F
         return Err(Fail::new("an orphan is not in the store"));
     }
     let code = collector.collect_format_args_impl(alloc, SOMEWHERE, fmt)?;
-    Ok(print_outcomes(alloc, collector.store(), &[Outcome::Code(code)])?)
+    let options = CfgOptions::new(alloc)?;
+    Ok(print_outcomes(alloc, collector.store(), &options, &[Outcome::Code(code)])?)
 }
 
 // What is printed of a whole call.

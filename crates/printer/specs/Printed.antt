@@ -1,5 +1,5 @@
 -- The printed form of outcomes: a line for each call, in order, with its number and what became of it; behind its code, a line for each usage of a name in its literal.
-use Rattle.std.specs.Prelude.{ℕ, ◌+◌, ◌/◌, ◌%◌, Bool, true, false, List, [], ◌∷◌, ◌++◌, codes, Option, Some, None}
+use Rattle.std.specs.Prelude.{ℕ, ◌+◌, ◌/◌, ◌%◌, ◌==◌, ◌&&◌, if◌then◌else◌, Bool, true, false, List, [], ◌∷◌, ◌++◌, length, codes, Option, Some, None}
 use Rattle.std.specs.Fmt.{decimal, digit_glyph}
 use Rattle.std.specs.List.{flat_map}
 use Rattle.sym_core.specs.declared.name.Name.{Name}
@@ -14,6 +14,12 @@ use Rattle.hir_store.specs.declared.store.ExpressionStore.{ExpressionStore}
 use Rattle.hir_store.specs.Tree.{Tree, Trees, Steps, Bad, Missing, Leaf, Path, LangPath, Text, Bytes, Ref, Tuple, Field, Array, Call, Block, Empty, More, End, Tail, Let, Nameless, Do}
 use Rattle.hir_store.specs.Unfolding.{place_of, tree_at}
 use Rattle.hir_store.specs.Sources.{captures_at}
+use Rattle.ra_cfg.specs.declared.cfg_expr.CfgExpr.{CfgExpr}
+use Rattle.ra_cfg.specs.Options.{OptionSet}
+use Rattle.ra_cfg.specs.Diff.{Diff}
+use Rattle.ra_cfg.specs.Text.{diff_text}
+use Rattle.cfg_dnf.specs.Hints.{Reason, hints}
+use Rattle.cfg_dnf.specs.ReasonText.{reason_text}
 use Rattle.hir_lower.specs.declared.outcome.Outcome.{Outcome}
 use Rattle.hir_lower.specs.declared.outcome.Outcome.TheVariants.{Off, Code}
 
@@ -117,16 +123,37 @@ use_lines number None = []
 abbrev pub code_lines : ExpressionStore → ℕ → ExprId → List ℕ
 code_lines store number id = decimal number ++ codes " code " ++ text_of (tree_at store id) ++ codes "\n" ++ use_lines number (captures_at store.format_args_to_captures (place_of id))
 
--- the lines of the call with this number: the number and `off`, or those of its code
-abbrev pub outcome_lines : ExpressionStore → ℕ → Outcome → List ℕ
-outcome_lines store number Off = decimal number ++ codes " off\n"
-outcome_lines store number (Code id) = code_lines store number id
+-- a space and the text of a reason; nothing where it has no atom
+abbrev pub reason_words : Reason → List ℕ
+reason_words why = if (length why.enabled == 0) && (length why.disabled == 0) then [] else codes " " ++ reason_text why.enabled why.disabled
+
+-- the line of why the call with this number is off, where that can be told
+abbrev pub reason_line : ℕ → Option Reason → List ℕ
+reason_line number None = []
+reason_line number (Some why) = decimal number ++ codes " reason" ++ reason_words why ++ codes "\n"
+
+-- the line of what switches the call with this number on
+abbrev pub hint_line : ℕ → Diff → List ℕ
+hint_line number diff = decimal number ++ codes " hint " ++ diff_text diff.enabled diff.disabled ++ codes "\n"
+
+-- a line for each hint of a call with this predicate
+abbrev pub hint_lines : OptionSet → ℕ → CfgExpr → List ℕ
+hint_lines options number expr = flat_map (hint_line number) (hints options expr)
+
+-- the lines of the call with this number, which is off: that it is, why, and what switches it on
+abbrev pub off_lines : OptionSet → ℕ → Option Reason → CfgExpr → List ℕ
+off_lines options number why expr = decimal number ++ codes " off\n" ++ reason_line number why ++ hint_lines options number expr
+
+-- the lines of the call with this number: those of its being off, or of its code
+abbrev pub outcome_lines : ExpressionStore → OptionSet → ℕ → Outcome → List ℕ
+outcome_lines store options number (Off why dnf) = off_lines options number why dnf
+outcome_lines store options number (Code id) = code_lines store number id
 
 -- the lines of calls whose numbers rise by one from the first
-abbrev pub lines_from : ExpressionStore → ℕ → List Outcome → List ℕ
-lines_from store first [] = []
-lines_from store first (outcome ∷ outcomes) = outcome_lines store first outcome ++ lines_from store (first + 1) outcomes
+abbrev pub lines_from : ExpressionStore → OptionSet → ℕ → List Outcome → List ℕ
+lines_from store options first [] = []
+lines_from store options first (outcome ∷ outcomes) = outcome_lines store options first outcome ++ lines_from store options (first + 1) outcomes
 
 -- the lines of all calls, numbered from 0
-abbrev pub printed : ExpressionStore → List Outcome → List ℕ
-printed store outcomes = lines_from store 0 outcomes
+abbrev pub printed : ExpressionStore → OptionSet → List Outcome → List ℕ
+printed store options outcomes = lines_from store options 0 outcomes

@@ -1,13 +1,17 @@
-ghost use Rattle.std.specs.Prelude.{◌≡◌, ◌++◌, IsTrue, IfOk, OnOk, string_bytes};
+ghost use Rattle.std.specs.Prelude.{◌≡◌, ◌++◌, Some, codes, IsTrue, IfOk, OnOk, string_bytes};
 ghost use Rattle.hir_store.specs.Tree.{is_whole};
 ghost use Rattle.hir_store.specs.Unfolding.{tree_at};
 ghost use Rattle.hir_store.specs.Store.{NoDanglingIds};
-ghost use Rattle.hir_lower.specs.Lowered.{IsInStore, AreInStore};
-ghost use Rattle.printer.specs.Printed.{use_line, use_lines_of, code_lines, outcome_lines, printed};
+ghost use Rattle.hir_lower.specs.Lowered.{AreInStore};
+ghost use Rattle.printer.specs.Printed.{reason_line, hint_line, hint_lines, use_line, use_lines_of, code_lines, printed};
+ghost use Rattle.std.specs.Option.{option_copied};
+ghost use Rattle.std.specs.Fmt.{decimal};
 
 use crate::expr::push_expr;
+use cfg_dnf::{DnfExpr, InactiveReason};
 use hir_lower::Outcome;
 use hir_store::{ExprId, ExpressionStore};
+use ra_cfg::{CfgDiff, CfgOptions};
 use std::alloc::{AllocError, Global};
 use std::fmt::Write;
 use sym_core::{Name, TextRange};
@@ -15,49 +19,87 @@ use sym_core::{Name, TextRange};
 /// Prints a line for each outcome, in order: the number of its call, from 0 on, and what became of the call.
 ///
 /// Code is printed as the expression that stands at its place in the store. Behind its line there is one for each usage
-/// that the store has there: a name that the literal of the call spells, and its bytes in the literal.
+/// that the store has there: a name that the literal of the call spells, and its bytes in the literal. Behind the line of a
+/// call that is off there is one that says why, where that can be told, and one for each hint under the options; hints are made
+/// one by one, and none is kept.
 ///
 /// ```
 /// let mut store = ExpressionStore::new(rt.alloc());
 /// let leaf = store.alloc_expr_desugared(Expr::Leaf(7))?;
-/// let outcomes = [Outcome::Code(leaf), Outcome::Off];
-/// let printed = print_outcomes(rt.alloc(), &store, &outcomes)?;
-/// assert_eq!(rt; printed.as_slice(), b"0 code @7\n1 off\n".as_slice());
+/// let options = CfgOptions::new(rt.alloc())?;
+/// let printed = print_outcomes(rt.alloc(), &store, &options, &[Outcome::Code(leaf)])?;
+/// assert_eq!(rt; printed.as_slice(), b"0 code @7\n".as_slice());
 /// ```
 pub fn print_outcomes(
     alloc: Global,
     store: &ExpressionStore,
+    options: &CfgOptions,
     outcomes: &[Outcome],
 ) -> Result<Vec<u8>, AllocError>
     requires no_dangling { NoDanglingIds store.now }
     requires codes { AreInStore store.now outcomes.now }
-    ensures { IfOk result (λ bytes. bytes.items ≡ printed store.now outcomes.now) }
+    ensures { IfOk result (λ bytes. bytes.items ≡ printed store.now options.now outcomes.now) }
 {
     let mut out = String::new(alloc);
     for (number, outcome) in outcomes.iter().enumerate() {
-        push_outcome(&mut out, store, number, outcome)?;
+        match outcome {
+            Outcome::Off { reason, dnf } => {
+                push_off(&mut out, number, reason.as_ref())?;
+                push_hints(alloc, &mut out, options, number, dnf)?;
+            }
+            Outcome::Code(id) => push_code(&mut out, store, number, *id)?,
+        }
     }
     Ok(out.into_bytes())
 }
 
-/// Writes the lines of an outcome.
-fn push_outcome(
+/// Writes that a call is off, and why, where that can be told.
+fn push_off(
     out: &mut String,
-    store: &ExpressionStore,
     number: usize,
-    outcome: &Outcome,
+    reason: Option<&InactiveReason>,
 ) -> Result<(), AllocError>
-    requires no_dangling { NoDanglingIds store.now }
-    requires code { IsInStore store.now outcome.now }
-    ensures { OnOk result (string_bytes out.new ≡ string_bytes out.old ++ outcome_lines store.now number outcome.now) }
+    ensures { OnOk result (string_bytes out.new ≡ string_bytes out.old ++ (decimal number ++ codes " off\n") ++ reason_line number (option_copied reason.entry)) }
 {
-    match outcome {
-        Outcome::Off => {
-            writeln!(out, "{number} off")?;
-            Ok(())
-        }
-        Outcome::Code(id) => push_code(out, store, number, *id),
+    writeln!(out, "{number} off")?;
+    match reason {
+        Some(reason) => push_reason(out, number, reason),
+        None => Ok(()),
     }
+}
+
+/// Writes why a call is off.
+fn push_reason(out: &mut String, number: usize, reason: &InactiveReason) -> Result<(), AllocError>
+    ensures { OnOk result (string_bytes out.new ≡ string_bytes out.old ++ reason_line number (Some reason.now)) }
+{
+    if reason.enabled().len() == 0 && reason.disabled().len() == 0 {
+        return writeln!(out, "{number} reason");
+    }
+    writeln!(out, "{number} reason {reason}")
+}
+
+/// Writes a line for each hint of a predicate under options.
+fn push_hints(
+    alloc: Global,
+    out: &mut String,
+    options: &CfgOptions,
+    number: usize,
+    dnf: &DnfExpr,
+) -> Result<(), AllocError>
+    ensures { OnOk result (string_bytes out.new ≡ string_bytes out.old ++ hint_lines options.now number dnf.now) }
+{
+    let mut hints = dnf.compute_enable_hints(alloc, options);
+    while let Some(hint) = hints.next() {
+        push_hint(out, number, &hint?)?;
+    }
+    Ok(())
+}
+
+/// Writes the line of a hint.
+fn push_hint(out: &mut String, number: usize, hint: &CfgDiff) -> Result<(), AllocError>
+    ensures { OnOk result (string_bytes out.new ≡ string_bytes out.old ++ hint_line number hint.now) }
+{
+    writeln!(out, "{number} hint {hint}")
 }
 
 /// Writes the line of the code of a call, and a line for each usage that the store has at the code.

@@ -3,10 +3,12 @@ ghost use Rattle.std.specs.Prelude.{◌≡◌, ◌<◌, length, IsTrue, IfOk, On
 ghost use Rattle.hir_store.specs.Tree.{is_whole, all_whole, steps_whole};
 ghost use Rattle.hir_store.specs.Unfolding.{place_of, tree_at, tree_over, trees_of, steps_of, tail_step, name_in};
 ghost use Rattle.hir_store.specs.Store.{NoDanglingIds};
+ghost use Rattle.hir_lower.specs.Lowered.{AreInStore, IsInStore};
 
 use super::*;
 use hir_store::{Expr, ExprId, ExprIds, LangFn, LangItem, Literal, Pat, PatId, Statement};
 use la_arena::ArenaError;
+use ra_cfg::{CfgAtom, CfgExpr};
 use sqlite_items::{Boxed, Items};
 use std::process::Abort;
 use std::test::Fail;
@@ -122,13 +124,48 @@ fn note_usages(
     Ok(())
 }
 
+// The outcome of a call that is off where the flag `a` is.
+fn off(alloc: Global, options: &CfgOptions) -> Result<Outcome, AllocError>
+    ensures { IfOk result (λ outcome. (store : _) → IsInStore store outcome) }
+{
+    let flag = CfgAtom::Flag(Symbol::new(alloc, "a")?);
+    let dnf = DnfExpr::new(alloc, &CfgExpr::Atom(flag))?;
+    let reason = dnf.why_inactive(alloc, options)?;
+    Ok(Outcome::Off { reason, dnf })
+}
+
+// What is printed of outcomes where no option is set.
+fn printed_of(
+    alloc: Global,
+    store: &ExpressionStore,
+    outcomes: &[Outcome],
+) -> Result<Vec<u8>, AllocError>
+    requires no_dangling { NoDanglingIds store.now }
+    requires codes { AreInStore store.now outcomes.now }
+{
+    let options = CfgOptions::new(alloc)?;
+    print_outcomes(alloc, store, &options, outcomes)
+}
+
+// The example of `print_outcomes`.
 #[test]
-fn prints_a_line_for_each_outcome(rt: HostRuntime) -> Result<(), Fail> {
+fn prints_code(rt: HostRuntime) -> Result<(), Fail> {
     let mut store = ExpressionStore::new(rt.alloc());
     let leaf = store.alloc_expr_desugared(Expr::Leaf(7))?;
-    let outcomes = [Outcome::Code(leaf), Outcome::Off];
-    let printed = print_outcomes(rt.alloc(), &store, &outcomes)?;
-    assert_eq!(rt; printed.as_slice(), b"0 code @7\n1 off\n".as_slice());
+    let printed = printed_of(rt.alloc(), &store, &[Outcome::Code(leaf)])?;
+    assert_eq!(rt; printed.as_slice(), b"0 code @7\n".as_slice());
+    Ok(())
+}
+
+#[test]
+fn prints_why_a_call_is_off(rt: HostRuntime) -> Result<(), Fail> {
+    let alloc = rt.alloc();
+    let store = ExpressionStore::new(alloc);
+    let options = CfgOptions::new(alloc)?;
+    let outcomes = [off(alloc, &options)?];
+    let printed = print_outcomes(alloc, &store, &options, &outcomes)?;
+    let lines = b"0 off\n0 reason a is disabled\n0 hint enable a\n";
+    assert_eq!(rt; printed.as_slice(), lines.as_slice());
     Ok(())
 }
 
@@ -141,7 +178,7 @@ fn prints_a_text(rt: HostRuntime) -> Result<(), Fail> {
     let args = ExprIds::from_slice(rt.alloc(), &[text])?;
     let call = place(&rt, &mut store, Expr::Call { callee, args })?;
     assert!(rt; stands(&store, call));
-    let printed = print_outcomes(rt.alloc(), &store, &[Outcome::Code(call)])?;
+    let printed = printed_of(rt.alloc(), &store, &[Outcome::Code(call)])?;
     assert_eq!(rt;
         printed.as_slice(),
         b"0 code Arguments::from_str(s\"6869\")\n".as_slice()
@@ -160,7 +197,7 @@ fn prints_tuples(rt: HostRuntime) -> Result<(), Fail> {
     assert!(rt; stands(&store, unit));
     assert!(rt; stands(&store, single));
     let outcomes = [Outcome::Code(unit), Outcome::Code(single)];
-    let printed = print_outcomes(alloc, &store, &outcomes)?;
+    let printed = printed_of(alloc, &store, &outcomes)?;
     let lines = b"0 code ()\n1 code (@4294967295,)\n";
     assert_eq!(rt; printed.as_slice(), lines.as_slice());
     Ok(())
@@ -182,7 +219,7 @@ fn prints_a_statement(rt: HostRuntime) -> Result<(), Fail> {
     };
     let block = place(&rt, &mut store, block)?;
     assert!(rt; stands(&store, block));
-    let printed = print_outcomes(alloc, &store, &[Outcome::Code(block)])?;
+    let printed = printed_of(alloc, &store, &[Outcome::Code(block)])?;
     let line = b"0 code { (missing, total, ()); }\n";
     assert_eq!(rt; printed.as_slice(), line.as_slice());
     Ok(())
@@ -286,7 +323,7 @@ fn prints_a_block(rt: HostRuntime) -> Result<(), Fail> {
     let made = made_arguments(&rt, alloc, &mut store)?;
     let block = two_lets(&rt, alloc, &mut store, references, list, made)?;
     assert!(rt; stands(&store, block));
-    let printed = print_outcomes(alloc, &store, &[Outcome::Code(block)])?;
+    let printed = printed_of(alloc, &store, &[Outcome::Code(block)])?;
     let line =
         b"0 code { let #0 = (&@1,); let #0 = [Argument::new_display(#0.0)]; unsafe { Arguments::new(b\"0178C002797B00\", &#0) } }\n";
     assert_eq!(rt; printed.as_slice(), line.as_slice());
@@ -308,8 +345,8 @@ fn prints_usages(rt: HostRuntime) -> Result<(), Fail> {
     assert!(rt; stands(&store, call));
     note_usages(&mut store, call, usages)?;
     assert!(rt; stands(&store, call));
-    let printed = print_outcomes(alloc, &store, &[Outcome::Code(call), Outcome::Off])?;
-    let lines = b"0 code missing(s\"6869\")\n0 use x 2..3\n0 use py 8..10\n1 off\n";
+    let printed = printed_of(alloc, &store, &[Outcome::Code(call)])?;
+    let lines = b"0 code missing(s\"6869\")\n0 use x 2..3\n0 use py 8..10\n";
     assert_eq!(rt; printed.as_slice(), lines.as_slice());
     Ok(())
 }

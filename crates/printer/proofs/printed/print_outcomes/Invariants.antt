@@ -7,5 +7,5 @@ use Rattle.printer.proofs.printed.print_outcomes.Given as goal
 abbrev pub invariant-loop-number : goal.invariant-loop-number
 invariant-loop-number l = record {
   codes : AreInStore l.store (drop l.number l.outcomes);
-  lines : string_bytes l.out ++ lines_from l.store l.number (drop l.number l.outcomes) ≡ printed l.store l.outcomes;
+  lines : string_bytes l.out ++ lines_from l.store l.options l.number (drop l.number l.outcomes) ≡ printed l.store l.options l.outcomes;
 }

@@ -1,0 +1,7 @@
+use Rattle.std.proofs.Common.{◌≡◌, drop}
+use Rattle.std.specs.List.{list_all}
+use Rattle.cfg_dnf.specs.Hints.{is_true}
+use Rattle.cfg_dnf.proofs.hinting.all_true.Given as goal
+
+abbrev pub invariant-loop-literal : goal.invariant-loop-literal
+invariant-loop-literal l = list_all (is_true l.opts) (drop l.literal-index l.literals) ≡ list_all (is_true l.opts) l.literals

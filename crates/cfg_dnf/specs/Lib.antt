@@ -1,0 +1,13 @@
+pub mod Conjunctions
+pub mod Form
+pub mod Gathering
+pub mod Hints
+pub mod Laws
+pub mod Leaves
+pub mod ReasonText
+pub mod Making
+pub mod Reasons
+pub mod Stepping
+pub mod Truth
+pub mod Walking
+pub mod Joined

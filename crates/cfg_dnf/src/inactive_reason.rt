@@ -1,0 +1,85 @@
+ghost use Rattle.std.specs.Prelude.{◌≡◌};
+ghost use Rattle.cfg_dnf.specs.Hints.{in_order};
+ghost use Rattle.cfg_dnf.specs.ReasonText.{IsReason};
+
+use crate::reason_text::write_reason;
+use ra_cfg::CfgAtom;
+use std::fmt;
+use std::marker::Model;
+
+/// Why a predicate is off: atoms that are enabled and would have to be off, and atoms that are disabled and would have to be
+/// on. It may be enough to change some of them.
+///
+/// ```
+/// let dnf = DnfExpr::new(alloc, &expr)?;                      // of `all(a, not(b))`
+/// let reason = dnf.why_inactive(alloc, &options)?;            // with `b` on and `a` off
+/// assert_eq!(format!("{reason}"), "b is enabled and a is disabled");
+/// ```
+#[derive(Debug, Drop)]
+pub struct InactiveReason {
+    enabled: Vec<CfgAtom>,
+    disabled: Vec<CfgAtom>,
+}
+
+impl Model for InactiveReason {
+    ghost use Rattle.cfg_dnf.specs.Hints.{Reason};
+    ghost use Rattle.cfg_dnf.specs.ReasonText.{IsReason, reason_code};
+
+    ghost Value = { Reason };
+
+    ghost coded = { reason_code };
+
+    ghost view = { λ r. record { enabled = r.enabled.items; disabled = r.disabled.items } };
+
+    ghost invariant = { λ r. IsReason (record { enabled = r.enabled.items; disabled = r.disabled.items }) };
+}
+
+impl fmt::Display for InactiveReason {
+    ghost use Rattle.std.specs.Prelude.{Some};
+    ghost use Rattle.cfg_dnf.specs.ReasonText.{reason_text};
+
+    ghost output = { λ reason. Some (reason_text reason.enabled reason.disabled) };
+
+    fn fmt<W: fmt::Write>(&self, f: &mut fmt::Formatter<W>) -> fmt::Result {
+        write_reason(&self.enabled, &self.disabled, f)
+    }
+}
+
+impl InactiveReason {
+    /// Makes a reason of these atoms, in order and each once.
+    pub(crate) fn new(enabled: Vec<CfgAtom>, disabled: Vec<CfgAtom>) -> InactiveReason
+        ensures enabled { result.enabled ≡ in_order enabled.items }
+        ensures disabled { result.disabled ≡ in_order disabled.items }
+    {
+        InactiveReason {
+            enabled: sorted(enabled),
+            disabled: sorted(disabled),
+        }
+    }
+
+    /// Returns the atoms that are enabled, in order. The type has an example.
+    pub fn enabled(&self) -> &[CfgAtom]
+        ensures value { result.now ≡ self.now.enabled }
+        ensures is_reason { IsReason self.now }
+    {
+        self.enabled.as_slice()
+    }
+
+    /// Returns the atoms that are disabled, in order. The type has an example.
+    pub fn disabled(&self) -> &[CfgAtom]
+        ensures value { result.now ≡ self.now.disabled }
+        ensures is_reason { IsReason self.now }
+    {
+        self.disabled.as_slice()
+    }
+}
+
+// The same atoms, in order and each once.
+fn sorted(atoms: Vec<CfgAtom>) -> Vec<CfgAtom>
+    ensures { result.items ≡ in_order atoms.items }
+{
+    let mut sorted = atoms;
+    sorted.sort_unstable();
+    sorted.dedup();
+    sorted
+}

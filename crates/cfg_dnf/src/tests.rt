@@ -1,0 +1,218 @@
+use crate::{DnfExpr, EnableHints, InactiveReason};
+use ra_cfg::{CfgAtom, CfgExpr, CfgOptions};
+use sqlite_items::Items;
+use std::alloc::{AllocError, Global};
+use std::test::Fail;
+use sym_core::Symbol;
+use syn_trees::{Spacing, TokenTree, TopSubtree, TtLiteral};
+
+// The flag of this name.
+fn flag(alloc: Global, name: &str) -> Result<CfgAtom, AllocError> {
+    Ok(CfgAtom::Flag(Symbol::new(alloc, name)?))
+}
+
+// Options with the flags of these names, which have blanks between.
+fn options_with(alloc: Global, names: &str) -> Result<CfgOptions, AllocError> {
+    let mut flags = Vec::new(alloc);
+    for name in names.split_whitespace() {
+        flags.push(flag(alloc, name)?)?;
+    }
+    CfgOptions::from_iter(alloc, flags)
+}
+
+// The tree of a word: a comma, a literal or a name.
+fn tree(alloc: Global, word: &str) -> Result<TokenTree, AllocError> {
+    Ok(match word {
+        "," => TokenTree::Punct {
+            ch: ',',
+            spacing: Spacing::Alone,
+        },
+        "5" => TokenTree::Literal(TtLiteral {
+            text: Symbol::new(alloc, word)?,
+        }),
+        _ => TokenTree::Ident(Symbol::new(alloc, word)?),
+    })
+}
+
+// The first predicate of these words with a blank between; brackets are words too.
+fn predicate(alloc: Global, text: &str) -> Result<CfgExpr, AllocError> {
+    let mut outer = Vec::new(alloc);
+    let mut trees = Items::new(alloc);
+    for word in text.split_whitespace() {
+        match word {
+            "(" => {
+                outer.push(trees)?;
+                trees = Items::new(alloc);
+            }
+            ")" => {
+                let group = TokenTree::Subtree(trees);
+                trees = outer.pop().unwrap_or(Items::new(alloc));
+                trees.push(group)?;
+            }
+            _ => trees.push(tree(alloc, word)?)?,
+        }
+    }
+    CfgExpr::parse(alloc, &TopSubtree { trees })
+}
+
+// The reason in words, behind how many atoms it has of each kind.
+fn told(alloc: Global, reason: &InactiveReason) -> Result<String, AllocError> {
+    let (on, off) = (reason.enabled().len(), reason.disabled().len());
+    format!(in alloc; "{on} {off}: {reason}")
+}
+
+// Why the predicate is off where these flags are set.
+fn reason(alloc: Global, text: &str, names: &str) -> Result<String, AllocError> {
+    let options = options_with(alloc, names)?;
+    let dnf = DnfExpr::new(alloc, &predicate(alloc, text)?)?;
+    match dnf.why_inactive(alloc, &options)? {
+        Some(reason) => told(alloc, &reason),
+        None => format!(in alloc; "none"),
+    }
+}
+
+// The hints of the predicate where these flags are set, each in brackets.
+fn hints(alloc: Global, text: &str, names: &str) -> Result<String, AllocError> {
+    let options = options_with(alloc, names)?;
+    let dnf = DnfExpr::new(alloc, &predicate(alloc, text)?)?;
+    let mut told = String::new(alloc);
+    for hint in dnf.compute_enable_hints(alloc, &options) {
+        let hint = hint?;
+        let words = format!(in alloc; "[{hint}]")?;
+        told.push_str(words.as_str())?;
+    }
+    Ok(told)
+}
+
+#[test]
+fn reasons_have_the_false_literals(rt: HostRuntime) -> Result<(), Fail> {
+    let cases = [
+        ("any ( )", "", "0 0: "),
+        ("all ( )", "", "none"),
+        ("a", "a", "none"),
+        ("false", "", "0 1: false is disabled"),
+        ("not ( a , b )", "a", "1 0: a is enabled"),
+        (
+            "all ( a , not ( b ) )",
+            "b",
+            "1 1: b is enabled and a is disabled",
+        ),
+        (
+            "all ( any ( a , b ) , c )",
+            "",
+            "0 3: a, b and c are disabled",
+        ),
+        ("not ( any ( a , b ) )", "a b", "2 0: a and b are enabled"),
+        ("all ( a , not ( a ) )", "", "0 1: a is disabled"),
+        ("all ( a , any ( ) )", "", "0 0: "),
+        ("all ( a , 5 )", "", "none"),
+    ];
+    for (text, names, want) in cases {
+        let got = reason(rt.alloc(), text, names)?;
+        assert!(rt; got.as_str() == want, "{text} with {names}: {got}");
+    }
+    Ok(())
+}
+
+#[test]
+fn hints_switch_conjunctions_on(rt: HostRuntime) -> Result<(), Fail> {
+    let cases = [
+        ("any ( )", "", ""),
+        ("all ( )", "", ""),
+        ("false", "", ""),
+        ("all ( not ( true ) , a )", "", ""),
+        ("any ( a , true )", "", "[enable a]"),
+        ("not ( a , b )", "a", "[disable a]"),
+        ("all ( a , not ( b ) )", "b", "[enable a; disable b]"),
+        (
+            "all ( any ( a , b ) , c )",
+            "",
+            "[enable a and c][enable b and c]",
+        ),
+        (
+            "all ( any ( a , b ) , any ( b , c ) )",
+            "",
+            "[enable a and b][enable a and c][enable b][enable b and c]",
+        ),
+        ("not ( all ( a , b ) )", "a b", "[disable a][disable b]"),
+        ("all ( a , not ( a ) )", "", ""),
+        ("any ( all ( a , 5 ) , b )", "", "[enable b]"),
+    ];
+    for (text, names, want) in cases {
+        let got = hints(rt.alloc(), text, names)?;
+        assert!(rt; got.as_str() == want, "{text} with {names}: {got}");
+    }
+    Ok(())
+}
+
+// The first hint of the predicate, where no flag is set.
+fn first_hint(alloc: Global, text: &str) -> Result<String, AllocError> {
+    let options = CfgOptions::new(alloc)?;
+    let dnf = DnfExpr::new(alloc, &predicate(alloc, text)?)?;
+    match dnf.compute_enable_hints(alloc, &options).next() {
+        Some(hint) => {
+            let hint = hint?;
+            format!(in alloc; "{hint}")
+        }
+        None => format!(in alloc; "none"),
+    }
+}
+
+#[test]
+fn many_conjunctions_are_not_gone_through(rt: HostRuntime) -> Result<(), Fail> {
+    let parts = "any ( a , b ) , ".repeat(rt.alloc(), 40)?;
+    let text = format!(in rt.alloc(); "all ( {parts} )")?;
+    assert!(rt; first_hint(rt.alloc(), text.as_str())?.as_str() == "enable a");
+    assert!(rt; reason(rt.alloc(), text.as_str(), "")?.as_str() == "0 2: a and b are disabled");
+    Ok(())
+}
+
+// How many hints `any` of so many flags has, where none is set.
+fn hint_count(alloc: Global, flags: usize) -> Result<usize, AllocError> {
+    let mut parts = Items::new(alloc);
+    for _ in 0..flags {
+        parts.push(CfgExpr::Atom(flag(alloc, "a")?))?;
+    }
+    let options = CfgOptions::new(alloc)?;
+    let dnf = DnfExpr::new(alloc, &CfgExpr::Any(parts))?;
+    let mut seen = 0_usize;
+    for hint in dnf.compute_enable_hints(alloc, &options) {
+        let _hint = hint?;
+        seen = seen.saturating_add(1);
+    }
+    Ok(seen)
+}
+
+#[test]
+fn a_million_flags_have_a_million_hints(rt: HostRuntime) -> Result<(), Fail> {
+    assert!(rt; hint_count(rt.alloc(), 1_000_000)? == 1_000_000);
+    Ok(())
+}
+
+// All fields of the two structs, which have no other ones: no list of conjunctions is kept.
+fn fields(dnf: &DnfExpr, hints: &EnableHints<'_>) -> usize {
+    let DnfExpr { expr: _ } = dnf;
+    let EnableHints {
+        alloc: _,
+        expr: _,
+        opts: _,
+        choices,
+        state: _,
+    } = hints;
+    choices.len()
+}
+
+#[test]
+fn no_list_of_conjunctions_is_kept(rt: HostRuntime) -> Result<(), Fail> {
+    let alloc = rt.alloc();
+    let options = CfgOptions::new(alloc)?;
+    let dnf = DnfExpr::new(
+        alloc,
+        &predicate(alloc, "all ( any ( a , b ) , any ( b , c ) )")?,
+    )?;
+    let mut hints = dnf.compute_enable_hints(alloc, &options);
+    assert!(rt; fields(&dnf, &hints) == 0);
+    let _ = hints.next();
+    assert!(rt; fields(&dnf, &hints) == 2);
+    Ok(())
+}
