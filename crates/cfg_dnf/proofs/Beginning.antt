@@ -1,9 +1,9 @@
 -- Making the choices of the first conjunction.
-use Rattle.std.proofs.Common.{◌≡◌, ℕ, zero, suc, ◌+◌, ◌<◌, ◌≤◌, Bool, true, false, List, [], ◌∷◌, ◌++◌, length, take, drop, get_or, Option, Some, None, refl, sym, ap, subst, ◌∙◌, append_assoc, arith}
+use Rattle.std.proofs.Common.{◌≡◌, ℕ, suc, ◌+◌, ◌<◌, ◌≤◌, Bool, true, false, List, [], ◌∷◌, ◌++◌, length, take, drop, get_or, Option, Some, None, refl, sym, ap, subst, ◌∙◌, append_assoc, arith}
 use Rattle.std.specs.Option.{option_map}
 use Rattle.std.proofs.lemmas.List.{drop_more, at_drop_all, append-nil}
 use Rattle.ra_cfg.specs.declared.cfg_expr.CfgExpr.{CfgExpr}
-use Rattle.cfg_dnf.specs.Form.{form, Forms, part_forms, ahead, later, or_else, both, first, sum_first, product_first}
+use Rattle.cfg_dnf.specs.Form.{form, part_forms, ahead, later, or_else, both, first, sum_first, product_first}
 use Rattle.cfg_dnf.specs.Making.{Made, Unmade, MakesIf, shifted}
 
 later_shifted : (i : ℕ) (p : List ℕ) → shifted i (later p) ≡ shifted (i + 1) p

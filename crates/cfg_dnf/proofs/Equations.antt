@@ -7,7 +7,7 @@ use Rattle.ra_cfg.specs.declared.cfg_expr.CfgExpr.TheFolds.{fold-roll-CfgExpr}
 use Rattle.cfg_dnf.specs.declared.literal.Leaf.TheVariants as leaf
 use Rattle.cfg_dnf.specs.declared.literal.Literal.{Literal}
 use Rattle.cfg_dnf.specs.Conjunctions.{literal, of_leaf, sum, product, conjunctions_step, conjunctions_if}
-use Rattle.cfg_dnf.specs.Form.{Form, Forms, Lit, Sum, Product, More, form, form_step, forms, part_forms}
+use Rattle.cfg_dnf.specs.Form.{Form, Lit, Sum, Product, More, form, form_step, forms, part_forms}
 
 module _ (negated : Bool) where
   conjunctions-at : (e : CfgExpr) (x : CfgExpr-F (Bool → List (List Literal))) → conjunctions_if e ≡ conjunctions_step x → conjunctions_if e negated ≡ conjunctions_step x negated

@@ -1,5 +1,5 @@
 -- The hint that is made is that of the conjunction.
-use Rattle.std.proofs.Common.{◌≡◌, Bool, true, false, not, ◌&&◌, if◌then◌else◌, List, [], ◌++◌, Some, None, refl, sym, ap, subst, ◌∙◌}
+use Rattle.std.proofs.Common.{◌≡◌, Bool, true, false, not, ◌&&◌, if◌then◌else◌, List, [], ◌++◌, Some, None, refl, sym, ap, ◌∙◌}
 use Rattle.std.specs.List.{list_any, list_all, filter_map}
 use Rattle.ra_cfg.specs.Options.{OptionSet}
 use Rattle.ra_cfg.specs.Diff.{Diff, IsDiff, HasOnly, stands_in}
@@ -7,11 +7,10 @@ use Rattle.ra_cfg.proofs.SameDiffs.{same_diffs}
 use Rattle.cfg_dnf.specs.declared.literal.Literal.{Literal}
 use Rattle.cfg_dnf.specs.declared.counted.FalseAtoms.{FalseAtoms}
 use Rattle.cfg_dnf.specs.Gathering.{TakesIn}
-use Rattle.cfg_dnf.specs.Hints.{holds, is_settled, is_true, is_fixed, contradicts, plain_atom, negated_atom, is_among, wants, wants_off, gives_hint, hint, hint_if}
+use Rattle.cfg_dnf.specs.Hints.{holds, is_settled, is_true, is_fixed, contradicts, plain_atom, negated_atom, is_among, wants, wants_off, hint, hint_if}
 use Rattle.cfg_dnf.proofs.InOrder.{among_in_order}
 use Rattle.cfg_dnf.proofs.Wanted.{among_wants, among_wants_off}
 use Rattle.cfg_dnf.proofs.HintLaws.{Kept, is_kept, hint_is_diff, apart_by}
-use Rattle.cfg_dnf.proofs.Standing.{not_so, no_both}
 
 only : (w d : Bool) → (w ≡ true → d ≡ false) → (w && not d) ≡ w
 only true d h = ap not (h refl)

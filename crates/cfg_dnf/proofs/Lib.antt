@@ -14,6 +14,7 @@ pub mod ReasonLaws
 pub mod Reasoned
 pub mod Standing
 pub mod Steps
+pub mod TextSteps
 pub mod Truths
 pub mod Walk
 pub mod WalkLaws

@@ -1,19 +1,16 @@
 -- What a single leaf gives.
-use Rattle.std.proofs.Common.{◌≡◌, ℕ, Bool, true, false, not, ◌||◌, List, [], ◌∷◌, ◌++◌, Option, Some, None, is_some, is_none, refl, sym, ap, subst, ◌∙◌}
-use Rattle.std.specs.Option.{option_map}
-use Rattle.std.specs.List.{list_any}
+use Rattle.std.proofs.Common.{◌≡◌, ℕ, Bool, true, false, List, Some, None, refl, ap, ◌∙◌}
 use Rattle.std.specs.FinMap as finite
 use Rattle.ra_cfg.specs.declared.cfg_expr.CfgAtom.{CfgAtom}
-use Rattle.ra_cfg.specs.declared.cfg_expr.CfgExpr.{CfgExpr, Invalid, Atom, All, Any, Not, Version}
+use Rattle.ra_cfg.specs.declared.cfg_expr.CfgExpr.{Invalid, Atom, Version}
 use Rattle.ra_cfg.specs.Options.{OptionSet}
-use Rattle.ra_cfg.specs.Reading.{reads_true, reads_false}
+use Rattle.ra_cfg.specs.Reading.{reads_true}
 use Rattle.cfg_dnf.specs.declared.literal.Leaf.{Leaf}
 use Rattle.cfg_dnf.specs.declared.literal.Leaf.TheVariants as leaf
-use Rattle.cfg_dnf.specs.declared.literal.Literal.{Literal}
 use Rattle.cfg_dnf.specs.Conjunctions.{literal}
-use Rattle.cfg_dnf.specs.Form.{form, Lit}
-use Rattle.cfg_dnf.specs.Hints.{holds, leaf_answer, answer, answer_if, is_open, is_true}
-use Rattle.cfg_dnf.specs.Leaves.{passes, counted}
+use Rattle.cfg_dnf.specs.Form.{form}
+use Rattle.cfg_dnf.specs.Hints.{holds, leaf_answer, answer, answer_if, is_true}
+use Rattle.cfg_dnf.specs.Leaves.{passes}
 use Rattle.cfg_dnf.proofs.Equations.{form-Invalid, form-Atom, form-Version, form-All, form-not_all, form-Any, form-not_any, form-Not}
 
 pub answer_of : (options : OptionSet) (l : Leaf) (negated : Bool) → answer options (literal l negated) ≡ answer_if (leaf_answer options l) negated

@@ -1,5 +1,5 @@
 -- What was gathered is the reason.
-use Rattle.std.proofs.Common.{◌≡◌, Bool, true, false, ◌||◌, if◌then◌else◌, List, [], ◌++◌, Option, Some, None, refl, sym, ap, subst, ◌∙◌}
+use Rattle.std.proofs.Common.{◌≡◌, Bool, true, false, ◌||◌, if◌then◌else◌, [], ◌++◌, Some, None, refl, sym, ap, subst, ◌∙◌}
 use Rattle.std.specs.List.{list_any}
 use Rattle.ra_cfg.specs.declared.cfg_expr.CfgExpr.{CfgExpr}
 use Rattle.ra_cfg.specs.Options.{OptionSet}

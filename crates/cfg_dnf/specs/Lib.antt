@@ -1,4 +1,5 @@
 pub mod Conjunctions
+pub mod DnfText
 pub mod Form
 pub mod Gathering
 pub mod Hints

@@ -6,7 +6,7 @@ use Rattle.cfg_dnf.specs.declared.enable_hints.WalkState.TheVariants.{Start, At,
 use Rattle.cfg_dnf.specs.declared.enable_hints.EnableHints.{EnableHints}
 use Rattle.cfg_dnf.specs.declared.literal.Literal.{Literal}
 use Rattle.cfg_dnf.specs.Form.{Form, form, first, next}
-use Rattle.cfg_dnf.specs.Walking.{ahead_of, left_of, IsStanding, IsAlong, HasEnded}
+use Rattle.cfg_dnf.specs.Walking.{ahead_of, left_of, IsStanding, HasEnded}
 
 -- the choices of the next conjunction, if there is one
 abbrev pub wanted_by : Form Literal → WalkState → List ℕ → Option (List ℕ)

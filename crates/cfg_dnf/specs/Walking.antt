@@ -1,7 +1,5 @@
 -- Where the walk over the conjunctions stands, and what is left of it.
-use Rattle.std.specs.Prelude.{◌≡◌, ℕ, Bool, true, false, List, [], ◌∷◌, ◌++◌, map, Option, Some, None, Result, Ok, Err}
-use Rattle.ra_cfg.specs.declared.cfg_expr.CfgExpr.{CfgExpr}
-use Rattle.ra_cfg.specs.Options.{OptionSet}
+use Rattle.std.specs.Prelude.{◌≡◌, ℕ, false, List, [], ◌∷◌, ◌++◌, map}
 use Rattle.ra_cfg.specs.Diff.{Diff}
 use Rattle.cfg_dnf.specs.declared.enable_hints.WalkState.{WalkState}
 use Rattle.cfg_dnf.specs.declared.enable_hints.WalkState.TheVariants.{Start, At, Ended}

@@ -1,8 +1,13 @@
-ghost use Rattle.std.specs.Prelude.{◌≡◌, IfOk};
+ghost use Rattle.std.specs.Prelude.{◌≡◌, ◌∷◌, ◌++◌, false, codes, IfOk, string_bytes};
+ghost use Rattle.ra_cfg.specs.Text.{call_text};
+ghost use Rattle.cfg_dnf.specs.DnfText.{dnf_text, texts_ahead};
+ghost use Rattle.cfg_dnf.specs.Form.{form, paths, behind};
 ghost use Rattle.cfg_dnf.specs.Hints.{in_order, hints, reason};
-ghost use Rattle.cfg_dnf.specs.Walking.{IsStanding, left_of};
+ghost use Rattle.cfg_dnf.specs.Walking.{IsStanding, StandsAt, left_of};
 ghost use Rattle.cfg_dnf.specs.Joined.{joined};
 
+use crate::choices::{first_choices, next_choices};
+use crate::conjunction_text::chosen_text;
 use crate::counted::{FalseAtoms, gather, is_true};
 use crate::enable_hints::EnableHints;
 use crate::inactive_reason::InactiveReason;
@@ -10,6 +15,7 @@ use ra_cfg::{CfgExpr, CfgOptions};
 use sqlite_items::Items;
 use std::alloc::{AllocError, Global};
 use std::marker::Model;
+use sym_core::Symbol;
 
 /// A predicate as a list of conjunctions, each a list of literals. The list is not stored: a walk over the predicate goes
 /// from one conjunction to the next.
@@ -102,6 +108,33 @@ impl DnfExpr {
     {
         EnableHints::new(alloc, &self.expr, opts)
     }
+
+    /// Returns the predicate as its conjunctions: a single one alone, and none or several in `any(..)`; in a conjunction a
+    /// single literal alone, and none or several in `all(..)`.
+    ///
+    /// ```
+    /// let dnf = DnfExpr::new(alloc, &expr)?;                      // of `all(any(a, b), c)`
+    /// assert!(dnf.text(alloc)?.as_str() == "any(all(a, c), all(b, c))");
+    /// ```
+    ///
+    /// # Errors
+    ///
+    /// Returns an error if there is no memory.
+    pub fn text(&self, alloc: Global) -> Result<Symbol, AllocError>
+        ensures { IfOk result (λ text. text ≡ dnf_text self.now) }
+    {
+        let mut choices = Vec::new(alloc);
+        if !first_choices(&self.expr, false, &mut choices)? {
+            return Symbol::new(alloc, "any()");
+        }
+        let first = chosen_text(alloc, &self.expr, choices.as_slice())?;
+        if !next_choices(&self.expr, false, &mut choices, 0)? {
+            return Symbol::new(alloc, first.as_str());
+        }
+        let texts = more_text(alloc, &self.expr, first, choices)?;
+        let whole = any_text(alloc, texts.as_str())?;
+        Symbol::new(alloc, whole.as_str())
+    }
 }
 
 // A copy of each.
@@ -122,4 +155,33 @@ fn reason_of(found: FalseAtoms) -> InactiveReason
 {
     let FalseAtoms { enabled, disabled } = found;
     InactiveReason::new(enabled, disabled)
+}
+
+// The texts of the conjunctions from these choices on, behind a first text, each behind `, `.
+fn more_text(
+    alloc: Global,
+    expr: &CfgExpr,
+    first: String,
+    choices: Vec<usize>,
+) -> Result<String, AllocError>
+    requires { StandsAt (form expr.now false) choices.items }
+    ensures { IfOk result (λ text. string_bytes text ≡ string_bytes first ++ texts_ahead (form expr.now false) (choices.items ∷ behind choices.items (paths (form expr.now false)))) }
+{
+    let mut text = first;
+    let mut choices = choices;
+    loop {
+        let more = chosen_text(alloc, expr, choices.as_slice())?;
+        text.push_str(", ")?;
+        text.push_str(more.as_str())?;
+        if !next_choices(expr, false, &mut choices, 0)? {
+            return Ok(text);
+        }
+    }
+}
+
+// Texts in `any(..)`.
+fn any_text(alloc: Global, texts: &str) -> Result<String, AllocError>
+    ensures { IfOk result (λ text. string_bytes text ≡ call_text (codes "any(") texts.now) }
+{
+    format!(in alloc; "any({texts})")
 }

@@ -4,6 +4,7 @@
 
 mod choices;
 mod conjunction;
+mod conjunction_text;
 mod counted;
 mod dnf;
 mod enable_hints;

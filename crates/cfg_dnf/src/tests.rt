@@ -145,6 +145,31 @@ fn hints_switch_conjunctions_on(rt: HostRuntime) -> Result<(), Fail> {
     Ok(())
 }
 
+// The predicate as its conjunctions.
+fn text(alloc: Global, words: &str) -> Result<Symbol, AllocError> {
+    DnfExpr::new(alloc, &predicate(alloc, words)?)?.text(alloc)
+}
+
+#[test]
+fn conjunctions_are_written(rt: HostRuntime) -> Result<(), Fail> {
+    let cases = [
+        ("any ( )", "any()"),
+        ("all ( )", "all()"),
+        ("a", "a"),
+        ("not ( a )", "not(a)"),
+        ("any ( a )", "a"),
+        ("all ( any ( a , b ) , c )", "any(all(a, c), all(b, c))"),
+        ("not ( any ( a , b ) )", "all(not(a), not(b))"),
+        ("any ( all ( ) , 5 )", "any(all(), <invalid>)"),
+        ("not ( version ( 5 ) )", "not(version(\"5\"))"),
+    ];
+    for (words, want) in cases {
+        let got = text(rt.alloc(), words)?;
+        assert!(rt; got.as_str() == want, "{words}: {got}");
+    }
+    Ok(())
+}
+
 // The first hint of the predicate, where no flag is set.
 fn first_hint(alloc: Global, text: &str) -> Result<String, AllocError> {
     let options = CfgOptions::new(alloc)?;

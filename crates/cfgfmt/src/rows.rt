@@ -319,3 +319,113 @@ fn prints_wide_places(rt: HostRuntime) -> Result<(), Fail> {
     assert!(rt; sink.bytes() == want.as_bytes());
     Ok(())
 }
+
+// Inline assembly: its operands and options, and which operands its templates put.
+#[test]
+fn prints_assembly(rt: HostRuntime) -> Result<(), Fail> {
+    let cases = [
+        // The counter goes on from template to template, and a name is looked up among the finished operands.
+        (
+            "asm \"{} {x}\", \"{}\"; in reg @1; in reg @2; x = in reg @3",
+            "0 1\n0 code asm!(in(reg) @1, in(reg) @2, x = in(reg) @3)\n0 map 0 2..2 0\n0 map 0 5..6 2\n0 map 1 2..2 1\n",
+        ),
+        // An operand that is dropped leaves no name; a number denotes none in a register of its own.
+        (
+            "asm \"{}{y}\"; y = in ? @9; in reg @1",
+            "0 1\n0 code asm!(in(reg) @1)\n0 map 0 2..2 0\n",
+        ),
+        (
+            "asm \"{0} {1}\"; out \"eax\" _; const @5",
+            "0 1\n0 code asm!(out(\"eax\") _, const @5)\n0 map 0 6..7 1\n",
+        ),
+        // Raw templates put nothing, and a faulty one is read up to its fault.
+        (
+            "asm \"{}\"; in reg @1; options(raw)",
+            "0 1\n0 code asm!(in(reg) @1; options(raw))\n",
+        ),
+        (
+            "asm \"{}{\"; in reg @1",
+            "0 1\n0 code asm!(in(reg) @1)\n0 map 0 2..2 0\n",
+        ),
+        // Each direction, and expressions that are not there.
+        (
+            "asm \"\"; in a @1; out b @2; lateout c _; inout d @3; inlateout e @4 => @5; inout f @6 => _",
+            "0 1\n0 code asm!(in(a) @1, out(b) @2, lateout(c) _, inout(d) @3, inlateout(e) @4 => @5, inout(f) @6 => _)\n",
+        ),
+        (
+            "asm \"\"; in a; out b; inout c ?; inout d ? => ?; in e _; label ?; const ?",
+            "0 1\n0 code asm!(in(a) missing, out(b) _, inout(c) missing, inout(d) missing => _, in(e) missing, label missing, const missing)\n",
+        ),
+        // Dropped operands of every kind, and those that are in no register.
+        (
+            "asm \"{}\"; a = ?; in ? @1; inout b; inlateout c; sym ?; ?; clobber_abi \"C\"; const @2",
+            "0 1\n0 code asm!(const @2)\n0 map 0 2..2 0\n",
+        ),
+        (
+            "asm \"{} {} {}\"; label @1; sym f; const @2",
+            "0 1\n0 code asm!(label @1, sym f, const @2)\n0 map 0 2..2 0\n0 map 0 5..5 1\n0 map 0 8..8 2\n",
+        ),
+        // The kinds of the macro. In front of a mark that follows directly, `global` is the name of a macro.
+        ("asm global \"nop\"", "0 1\n0 code global_asm!()\n"),
+        ("asm naked \"nop\"", "0 1\n0 code naked_asm!()\n"),
+        ("asm global!; in reg @1", "0 1\n0 code asm!(in(reg) @1)\n"),
+        (
+            "asm global !; in reg @1",
+            "0 1\n0 code global_asm!(in(reg) @1)\n",
+        ),
+        // Options stand in the order of their bits, and words that are none have no effect.
+        (
+            "asm \"\"; options(readonly, att_syntax); options(nomem, pure, other)",
+            "0 1\n0 code asm!(; options(att_syntax, nomem, pure, readonly))\n",
+        ),
+        // Pieces that are off say nothing.
+        (
+            "opt a\nasm \"{}\"; cfg(b) options(raw); cfg(b) in r @1; cfg(a) in s @2; cfg(a) cfg(b) const @3",
+            "0 1\n0 code asm!(in(s) @2)\n0 map 0 2..2 0\n",
+        ),
+        // A template through a macro takes part in the counter, and has no spans; one that reaches nothing has an empty row.
+        (
+            "macro m => \"{}\"\nasm \"{}\", m!, \"{}\", !, \"{}\"; in a @1; in b @2; in c @3; in d @4",
+            "0 1\n0 code asm!(in(a) @1, in(b) @2, in(c) @3, in(d) @4)\n0 map 0 2..2 0\n0 map 2 2..2 2\n0 map 4 2..2 3\n",
+        ),
+        // A literal without a value leaves the counter; one with an escape is read, and has no spans.
+        (
+            "asm \"{}\", \"\\q{}\", \"{}\"; in a @1; in b @2",
+            "0 1\n0 code asm!(in(a) @1, in(b) @2)\n0 map 0 2..2 0\n0 map 2 2..2 1\n",
+        ),
+        (
+            "asm \"{}\\n\", \"{}\"; in a @1; in b @2",
+            "0 1\n0 code asm!(in(a) @1, in(b) @2)\n0 map 1 2..2 1\n",
+        ),
+        // Of operands that share a name the last one counts; numbers pass by those that bear one.
+        (
+            "asm \"{x}\"; x = in a @1; x = in b @2",
+            "0 1\n0 code asm!(x = in(a) @1, x = in(b) @2)\n0 map 0 2..3 1\n",
+        ),
+        (
+            "asm \"{0}{1}\"; x = in a @1; in b @2",
+            "0 1\n0 code asm!(x = in(a) @1, in(b) @2)\n0 map 0 5..6 1\n",
+        ),
+        (
+            "asm \"{x}\"; x = in \"eax\" @1",
+            "0 1\n0 code asm!(x = in(\"eax\") @1)\n0 map 0 2..3 0\n",
+        ),
+        // Places are bytes of the token; a number may denote nothing, and a modifier changes nothing.
+        (
+            "asm r\"{}\"; in a @1",
+            "0 1\n0 code asm!(in(a) @1)\n0 map 0 3..3 0\n",
+        ),
+        (
+            "asm \"{5}{:e}\"; in a @1",
+            "0 1\n0 code asm!(in(a) @1)\n0 map 0 5..5 0\n",
+        ),
+    ];
+    for (script, want) in cases {
+        assert_eq!(rt;
+            told_of(rt.alloc(), script)?.as_str(),
+            want,
+            "of the script {script}"
+        );
+    }
+    Ok(())
+}

@@ -1,10 +1,11 @@
 -- The definitions computed on worked examples, whose bytes and trees were written by hand from the format.
-use lib.Utf8.{encode}
 use Rattle.std.specs.Prelude.{◌≡◌, ℕ, true, false, List, [], ◌∷◌, Some, None, refl}
 use Rattle.sym_core.specs.declared.name.Name.TheVariants as name
 use Rattle.hir_store.specs.declared.lang_item.LangItem.TheVariants.{FormatArguments, FormatArgument}
 use Rattle.hir_store.specs.declared.lang_item.LangFn.TheVariants.{New, FromStr, NewDisplay, FromUsize}
-use Rattle.hir_store.specs.Tree.{Tree, Missing, Leaf, Path, LangPath, Text, Bytes, Ref, Tuple, Field, Array, Call, Block, Empty, More, Tail, Let, Do}
+use Rattle.hir_store.specs.declared.asm.InlineAsmKind.{InlineAsmKind}
+use Rattle.hir_store.specs.declared.asm_options.AsmOptions.{AsmOptions}
+use Rattle.hir_store.specs.Tree.{Tree, Missing, Leaf, Path, LangPath, Text, Bytes, Ref, Tuple, Field, Array, Call, Block, InlineAsm, Empty, More, Tail, Let, Do, Operands}
 use Rattle.code_meaning.specs.Write.{Display, Right, FormattingOptions, NoCount, Is, Of, Byte, Put}
 use Rattle.code_meaning.specs.Value.{LeafEvent, NameEvent, At, FromText, Arguments, Made, By, AsCount}
 use Rattle.code_meaning.specs.Value as value
@@ -146,3 +147,6 @@ missing_is_stuck = refl
 
 unbound_is_stuck : evaluation_of (Path (name.Fresh 0)) ≡ None
 unbound_is_stuck = refl
+
+assembly_is_stuck : (kind : InlineAsmKind) (options : AsmOptions) (operands : Operands) → evaluation_of (InlineAsm kind options operands) ≡ None
+assembly_is_stuck kind options operands = refl

@@ -6,7 +6,7 @@ use Rattle.sym_core.specs.declared.name.Name.TheVariants as name
 use Rattle.hir_store.specs.declared.lang_item.LangItem.TheVariants.{FormatArguments, FormatArgument}
 use Rattle.hir_store.specs.declared.lang_item.LangFn.{LangFn}
 use Rattle.hir_store.specs.declared.lang_item.LangFn.TheVariants.{New, FromStr}
-use Rattle.hir_store.specs.Tree.{Tree, Trees, Steps, Bad, Missing, Leaf, Path, LangPath, Text, Bytes, Ref, Tuple, Field, Array, Call, Block, End, Tail, Let, Nameless, Do}
+use Rattle.hir_store.specs.Tree.{Tree, Trees, Steps, Bad, Missing, Leaf, Path, LangPath, Text, Bytes, Ref, Tuple, Field, Array, Call, Block, InlineAsm, End, Tail, Let, Nameless, Do}
 use Rattle.hir_store.specs.Tree as tree
 use Rattle.code_meaning.specs.Value.{Event, LeafEvent, NameEvent, Value, Values, At, TextValue, BytesValue, RefValue, TupleValue, ListValue, Made, Arguments, FromText, Empty, More, use_of, value_at}
 
@@ -110,6 +110,7 @@ abbrev mutual
   eval (Array ts) env k = then_run (eval_all ts env k) k (λ vs k1. Some ([], ListValue vs))
   eval (Call callee ts) env k = then_run (eval_all ts env k) k (λ vs k1. quiet (applied callee vs))
   eval (Block is_unsafe steps) env k = eval_steps steps env k
+  eval (InlineAsm kind options operands) env k = None
 
   pub eval_all : Trees → Environment → ℕ → Run Values
   eval_all tree.Empty env k = Some ([], Empty)

@@ -6,4 +6,7 @@ pub mod Pieces
 pub mod Readings
 pub mod Numbers
 pub mod PiecesSoFar
+pub mod Modifiers
+pub mod AsmSoFar
+pub mod AsmReadings
 pub mod Ranges

@@ -134,7 +134,7 @@ module _ (number : ℕ) where
       })
       (λ no_colon same. subst (λ z. Spells (IsFormat number) (place at (c ∷ cs)) z) (same_Some _ _ same) (record { text = []; took = took_none (place at (c ∷ cs)); rule = (no_colon, refl) }))
 
-  format_reads : Reads (IsFormat number) (format_at number)
+  pub format_reads : Reads (IsFormat number) (format_at number)
   format_reads = record { found = format_found; is = λ p r e. format_in p.at p.left r e }
 
 -- End
@@ -170,6 +170,6 @@ end_is p r found =
 end_reads : Reads IsEnd end_at
 end_reads = record { found = end_found; is = end_is }
 
--- all that stands behind an opening brace
-pub inner_reads : (number : ℕ) → Reads (IsInner number) (inner_at number)
-inner_reads number = both_reads _ _ _ _ arg_reads (both_reads _ _ _ _ (format_reads number) end_reads)
+-- all that stands behind an opening brace, where the options are read
+pub inner_reads : (Options : ℕ → List ℕ → SpecParts → List ℕ → Type 0) (options_at : Place → Option (SpecParts × Place)) → Reads Options options_at → Reads (IsInner Options) (inner_at options_at)
+inner_reads Options options_at options_read = both_reads _ _ _ _ arg_reads (both_reads _ _ _ _ options_read end_reads)

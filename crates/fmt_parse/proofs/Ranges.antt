@@ -14,8 +14,10 @@ use Rattle.text_cut.proofs.Parts.{part_behind}
 use Rattle.fmt_parse.specs.declared.piece.Position.{Position}
 use Rattle.fmt_parse.specs.declared.piece.Piece.{Piece}
 use Rattle.fmt_parse.specs.Tokens.{range}
-use Rattle.fmt_parse.specs.Spec.{Counted, IsCount, IsPrecision, Typed, IsType, SpecParts, AreParts, IsFormat}
-use Rattle.fmt_parse.specs.Pieces.{Written, IsArg, filled, IsPlaceholder, IsAnyPiece, IsPiece, ArePieces}
+use Rattle.fmt_parse.specs.Spec.{Counted, IsCount, IsPrecision, Typed, IsType, SpecParts, AreParts, typed_parts, IsFormat}
+use Rattle.fmt_parse.specs.Pieces.{taken, Written, IsArg, filled, IsPlaceholder, IsAnyPiece, IsPiece, ArePieces}
+use Rattle.fmt_parse.specs.declared.asm.AsmRead.{AsmRead}
+use Rattle.fmt_parse.specs.Asm.{IsModifier, IsModified, counter, IsAsmPiece, IsAsmRead}
 use Rattle.fmt_parse.specs.Ranges.{OfCount, OfPosition, RangesWithin}
 
 module _ (text : List ℕ) (utf8 : IsUtf8 text) where
@@ -109,12 +111,16 @@ module _ (text : List ℕ) (utf8 : IsUtf8 text) where
         ty = type_within _ _ _ _ precision.latter (latter _ _ _ _ _ precision.whole behind_width);
       }
 
-  format_within : (number at : ℕ) (part : List ℕ) (v : SpecParts) (rest : List ℕ) → IsFormat number at part v rest → Stands at part rest → SpecWithin v
-  format_within number at [] v rest h is = subst (λ w. SpecWithin w) (sym h.1) (record {
+  -- the ranges of a type alone
+  typed_within : (v : SpecParts) (ty : TextRange) → v ≡ typed_parts ty → IsRange ty → SpecWithin v
+  typed_within v ty same is = subst (λ (w : SpecParts). SpecWithin w) (sym same) (record {
     width = record { count = tt; span = tt };
     precision = record { count = tt; span = tt };
-    ty = its_range at [] rest is;
+    ty = is;
   })
+
+  format_within : (number at : ℕ) (part : List ℕ) (v : SpecParts) (rest : List ℕ) → IsFormat number at part v rest → Stands at part rest → SpecWithin v
+  format_within number at [] v rest h is = typed_within v _ h.1 (its_range at [] rest is)
   format_within number at (c ∷ part) v rest h is = parts_within number (at + len_utf8 c) part v rest h.1 (tail_stands at c part rest is)
 
   -- the ranges of the argument that a placeholder names
@@ -134,40 +140,61 @@ module _ (text : List ℕ) (utf8 : IsUtf8 text) where
   filled_within None n is = tt
   filled_within (Some p) n is = is
 
-  placeholder_within : (number at : ℕ) (part : List ℕ) (piece : Piece) (rest : List ℕ) → IsPlaceholder number at part piece rest → Stands at part rest → RangesWithin text piece
-  placeholder_within number at part piece rest h is =
-      let inner = h.is in
-      let format = inner.latter in
-      let behind_brace : Stands (at + 1) h.inner rest = latter at part (123 ∷ []) h.inner rest h.whole is in
-      let arg : WrittenWithin h.parts.0 = arg_within _ _ _ _ inner.former (former _ _ _ _ _ inner.whole behind_brace) in
-      let behind_arg = latter _ _ _ _ _ inner.whole behind_brace in
-      let spec : SpecWithin h.parts.1.0 = format_within _ _ _ _ _ format.former (former _ _ _ _ _ format.whole behind_arg) in
-      subst (λ p. RangesWithin text p) (sym h.value) (record {
-        whole = its_range at part rest is;
-        position = filled_within h.parts.0.0 _ arg.position;
-        position_span = arg.span;
-        width = spec.width.count;
-        width_span = spec.width.span;
-        precision = spec.precision.count;
-        precision_span = spec.precision.span;
-        ty = spec.ty;
-      })
+  -- the ranges of placeholders, where those of their options are parts of the text
+  module _ (Options : ℕ → List ℕ → SpecParts → List ℕ → Type 0) (options_within : (at : ℕ) (part : List ℕ) (v : SpecParts) (rest : List ℕ) → Options at part v rest → Stands at part rest → SpecWithin v) (number : ℕ) where
+    placeholder_within : (at : ℕ) (part : List ℕ) (piece : Piece) (rest : List ℕ) → IsPlaceholder Options number at part piece rest → Stands at part rest → RangesWithin text piece
+    placeholder_within at part piece rest h is =
+        let inner = h.is in
+        let format = inner.latter in
+        let behind_brace : Stands (at + 1) h.inner rest = latter at part (123 ∷ []) h.inner rest h.whole is in
+        let arg : WrittenWithin h.parts.0 = arg_within _ _ _ _ inner.former (former _ _ _ _ _ inner.whole behind_brace) in
+        let behind_arg = latter _ _ _ _ _ inner.whole behind_brace in
+        let spec : SpecWithin h.parts.1.0 = options_within _ _ _ _ format.former (former _ _ _ _ _ format.whole behind_arg) in
+        subst (λ p. RangesWithin text p) (sym h.value) (record {
+          whole = its_range at part rest is;
+          position = filled_within h.parts.0.0 _ arg.position;
+          position_span = arg.span;
+          width = spec.width.count;
+          width_span = spec.width.span;
+          precision = spec.precision.count;
+          precision_span = spec.precision.span;
+          ty = spec.ty;
+        })
 
-  piece_within : (number at : ℕ) (part : List ℕ) (piece : Piece) (rest : List ℕ) → IsAnyPiece number at part piece rest → Stands at part rest → RangesWithin text piece
-  piece_within number at part piece rest (inl h) is = subst (λ p. RangesWithin text p) (sym h.value) (its_range at part rest is)
-  piece_within number at part piece rest (inr (inl h)) is = subst (λ p. RangesWithin text p) (sym h.value) (its_range at (123 ∷ []) (123 ∷ [] ++ rest) (former at part (123 ∷ []) (123 ∷ []) rest h.is is))
-  piece_within number at part piece rest (inr (inr (inl h))) is = subst (λ p. RangesWithin text p) (sym h.value) (its_range at (125 ∷ []) (125 ∷ [] ++ rest) (former at part (125 ∷ []) (125 ∷ []) rest h.is is))
-  piece_within number at part piece rest (inr (inr (inr h))) is = placeholder_within number at part piece rest h is
+    piece_within : (at : ℕ) (part : List ℕ) (piece : Piece) (rest : List ℕ) → IsAnyPiece Options number at part piece rest → Stands at part rest → RangesWithin text piece
+    piece_within at part piece rest (inl h) is = subst (λ p. RangesWithin text p) (sym h.value) (its_range at part rest is)
+    piece_within at part piece rest (inr (inl h)) is = subst (λ p. RangesWithin text p) (sym h.value) (its_range at (123 ∷ []) (123 ∷ [] ++ rest) (former at part (123 ∷ []) (123 ∷ []) rest h.is is))
+    piece_within at part piece rest (inr (inr (inl h))) is = subst (λ p. RangesWithin text p) (sym h.value) (its_range at (125 ∷ []) (125 ∷ [] ++ rest) (former at part (125 ∷ []) (125 ∷ []) rest h.is is))
+    piece_within at part piece rest (inr (inr (inr h))) is = placeholder_within at part piece rest h is
 
-  -- the pieces behind others
-  spelled_within : (front ss : List (Spelled Piece)) → chars text ≡ texts front ++ (texts ss ++ []) → AreSpelled IsPiece front ss [] → All (RangesWithin text) (items ss)
-  spelled_within front [] whole are = All-nil (RangesWithin text)
-  spelled_within front (s ∷ ss) whole are =
-      let there : chars text ≡ texts front ++ (s.text ++ (texts ss ++ [])) = whole ∙ ap (λ l. texts front ++ l) (append_assoc s.text (texts ss) []) in
-      All-cons (RangesWithin text) s.item (items ss)
-      (piece_within _ _ s.text s.item (texts ss ++ []) are.0 (record { front = texts front; whole = there; begins = refl }))
-      (spelled_within (front ++ s ∷ []) ss (there ∙ (sym (append_assoc (texts front) s.text (texts ss ++ [])) ∙ ap (λ l. l ++ (texts ss ++ [])) (sym (texts_more front s)))) are.1)
+  -- the pieces behind others, where the ranges of each are parts of the text
+  module _ (rule : List (Spelled Piece) → List ℕ → Piece → List ℕ → Type 0) (within : (front : List (Spelled Piece)) (part : List ℕ) (piece : Piece) (rest : List ℕ) → rule front part piece rest → Stands (size (texts front)) part rest → RangesWithin text piece) where
+    spelled_within : (front ss : List (Spelled Piece)) (rest : List ℕ) → chars text ≡ texts front ++ (texts ss ++ rest) → AreSpelled rule front ss rest → All (RangesWithin text) (items ss)
+    spelled_within front [] rest whole are = All-nil (RangesWithin text)
+    spelled_within front (s ∷ ss) rest whole are =
+        let there : chars text ≡ texts front ++ (s.text ++ (texts ss ++ rest)) = whole ∙ ap (λ l. texts front ++ l) (append_assoc s.text (texts ss) rest) in
+        All-cons (RangesWithin text) s.item (items ss)
+        (within front s.text s.item (texts ss ++ rest) are.0 (record { front = texts front; whole = there; begins = refl }))
+        (spelled_within (front ++ s ∷ []) ss rest (there ∙ (sym (append_assoc (texts front) s.text (texts ss ++ rest)) ∙ ap (λ l. l ++ (texts ss ++ rest)) (sym (texts_more front s)))) are.1)
+
+  modifier_within : (at : ℕ) (part : List ℕ) (v : SpecParts) (rest : List ℕ) → IsModifier at part v rest → Stands at part rest → SpecWithin v
+  modifier_within at [] v rest h is = typed_within v _ h.1 (its_range at [] rest is)
+  modifier_within at (c ∷ part) v rest h is = typed_within v _ h.1 (its_range at (c ∷ part) rest is)
+
+  modified_within : (at : ℕ) (part : List ℕ) (v : SpecParts) (rest : List ℕ) → IsModified at part v rest → Stands at part rest → SpecWithin v
+  modified_within at [] v rest h is = typed_within v _ h.1 (its_range at [] rest is)
+  modified_within at (c ∷ part) v rest h is = modifier_within (at + len_utf8 c) part v rest h.1 (tail_stands at c part rest is)
 
 -- every range of the pieces of a text is a part of it
 pub pieces_within : (text : List ℕ) (pieces : List Piece) → IsUtf8 text → ArePieces text pieces → All (RangesWithin text) pieces
-pieces_within text pieces utf8 is = subst (λ l. All (RangesWithin text) l) (sym is.are) (spelled_within text utf8 [] is.pieces is.reading.there is.reading.are)
+pieces_within text pieces utf8 is = subst (λ l. All (RangesWithin text) l) (sym is.are)
+    (spelled_within text utf8 IsPiece
+    (λ front. piece_within text utf8 (IsFormat (taken (items front))) (format_within text utf8 (taken (items front))) (taken (items front)) (size (texts front)))
+    [] is.pieces [] is.reading.there is.reading.are)
+
+-- and so of the pieces that are read of a template
+pub asm_pieces_within : (from : ℕ) (text : List ℕ) (read : AsmRead) → IsUtf8 text → IsAsmRead from text read → All (RangesWithin text) read.pieces.items
+asm_pieces_within from text read utf8 is = subst (λ l. All (RangesWithin text) l) (sym is.pieces)
+    (spelled_within text utf8 (IsAsmPiece from)
+    (λ front. piece_within text utf8 IsModified (modified_within text utf8) (counter from (items front)) (size (texts front)))
+    [] is.front is.rest is.are.reach.there is.are.reach.are)

@@ -1,9 +1,12 @@
 pub mod Tokens
 pub mod Spec
 pub mod Pieces
+pub mod Asm
 pub mod ReadTokens
 pub mod ReadSpec
 pub mod ReadPieces
+pub mod ReadAsm
+pub mod Mode
 pub mod Ranges
 pub mod Format
 pub mod Laws

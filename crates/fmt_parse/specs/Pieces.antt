@@ -1,4 +1,4 @@
--- The pieces of a format text (std::fmt, sections "Syntax" and "Escaping").
+-- The pieces of a format text (std::fmt, sections "Syntax" and "Escaping"), and of any text that differs from it in what stands behind an argument.
 use Rattle.std.specs.Prelude.{◌≡◌, ◌+◌, ◌⊎◌, ℕ, Bool, true, false, ◌||◌, not, List, [], ◌∷◌, ◌++◌, Option, Some, None}
 use Rattle.std.specs.Str.{chars}
 use Rattle.std.specs.Char.{is_ascii_digit, is_whitespace}
@@ -71,12 +71,12 @@ pub record IsEnd (at : ℕ) (text : List ℕ) (v : Unit {0}) (rest : List ℕ) :
   pub whole : text ≡ blanks ++ 125 ∷ []
   pub longest : IsLongest is_whitespace blanks (125 ∷ rest)
 
--- what stands behind the opening brace of a placeholder
+-- what stands behind the opening brace of a placeholder, where this rule says what its options are
 abbrev pub Inner : Type 0
 Inner = Written × (SpecParts × Unit {0})
 
-abbrev pub IsInner : ℕ → ℕ → List ℕ → Inner → List ℕ → Type 0
-IsInner number = Both IsArg (Both (IsFormat number) IsEnd)
+abbrev pub IsInner : (ℕ → List ℕ → SpecParts → List ℕ → Type 0) → ℕ → List ℕ → Inner → List ℕ → Type 0
+IsInner options = Both IsArg (Both options IsEnd)
 
 -- the placeholder of these parts, between these braces; a `*` takes its argument before the value
 abbrev pub placeholder : ℕ → TextRange → Inner → Argument
@@ -87,12 +87,13 @@ placeholder number span v = record {
   format = spec_of v.1.0;
 }
 
-pub record IsPlaceholder (number at : ℕ) (text : List ℕ) (piece : Piece) (rest : List ℕ) : Type 0 where
+-- a placeholder: an opening brace that no second one follows, and what stands behind it; its options are those of the rule
+pub record IsPlaceholder (options : ℕ → List ℕ → SpecParts → List ℕ → Type 0) (number at : ℕ) (text : List ℕ) (piece : Piece) (rest : List ℕ) : Type 0 where
   pub inner : List ℕ
   pub parts : Inner
   pub whole : text ≡ 123 ∷ inner
   pub single : starts is_open (inner ++ rest) ≡ false
-  pub is : IsInner number (at + 1) inner parts rest
+  pub is : IsInner options (at + 1) inner parts rest
   pub value : piece ≡ NextArgument (placeholder number (range at text) parts)
 
 -- a character other than a brace
@@ -110,12 +111,13 @@ pub record IsDoubled (brace at : ℕ) (text : List ℕ) (piece : Piece) : Type 0
   pub is : text ≡ brace ∷ brace ∷ []
   pub value : piece ≡ Lit (range at (brace ∷ []))
 
-abbrev pub IsAnyPiece : ℕ → ℕ → List ℕ → Piece → List ℕ → Type 0
-IsAnyPiece number at text piece rest = IsPlainText at text piece rest ⊎ (IsDoubled 123 at text piece ⊎ (IsDoubled 125 at text piece ⊎ IsPlaceholder number at text piece rest))
+-- a piece, where the options of placeholders are those of the rule, and the next argument has this number
+abbrev pub IsAnyPiece : (ℕ → List ℕ → SpecParts → List ℕ → Type 0) → ℕ → ℕ → List ℕ → Piece → List ℕ → Type 0
+IsAnyPiece options number at text piece rest = IsPlainText at text piece rest ⊎ (IsDoubled 123 at text piece ⊎ (IsDoubled 125 at text piece ⊎ IsPlaceholder options number at text piece rest))
 
 -- the spellings of a piece behind these
 abbrev pub IsPiece : List (Spelled Piece) → List ℕ → Piece → List ℕ → Type 0
-IsPiece front text piece rest = IsAnyPiece (taken (items front)) (size (texts front)) text piece rest
+IsPiece front text piece rest = IsAnyPiece (IsFormat (taken (items front))) (taken (items front)) (size (texts front)) text piece rest
 
 -- the bytes of a text are these pieces
 abbrev pub ArePieces : List ℕ → List Piece → Type 0

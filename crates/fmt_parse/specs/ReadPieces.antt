@@ -1,4 +1,4 @@
--- The pieces of a format text, as functions of a place.
+-- The pieces of a text, as functions of a place.
 use Rattle.std.specs.Prelude.{ℕ, Bool, Option, Some, None, if◌then◌else◌, option_map}
 use Rattle.std.specs.Option.{option_and_then}
 use Rattle.std.specs.Char.{is_ascii_digit, is_whitespace}
@@ -10,6 +10,7 @@ use Rattle.fmt_parse.specs.declared.piece.Piece.{Piece}
 use Rattle.fmt_parse.specs.declared.piece.Piece.TheVariants.{Lit, NextArgument}
 use Rattle.fmt_parse.specs.Tokens.{starts_name, is_open, is_close}
 use Rattle.fmt_parse.specs.ReadTokens.{between, int_at, name_at}
+use Rattle.fmt_parse.specs.Spec.{SpecParts}
 use Rattle.fmt_parse.specs.ReadSpec.{format_at}
 use Rattle.fmt_parse.specs.Pieces.{Written, Inner, placeholder, is_plain}
 
@@ -33,19 +34,19 @@ closing_brace e = if starts is_close e.left then option_map (λ (r : ℕ × Plac
 unfoldable pub end_at : Place → Option (Unit {0} × Place)
 end_at p = closing_brace (past is_whitespace p)
 
--- what stands behind an opening brace
-abbrev pub inner_at : ℕ → Place → Option (Inner × Place)
-inner_at number = both_at arg_at (both_at (format_at number) end_at)
+-- what stands behind an opening brace, where this reads the options
+abbrev pub inner_at : (Place → Option (SpecParts × Place)) → Place → Option (Inner × Place)
+inner_at options = both_at arg_at (both_at options end_at)
 
 -- the placeholder whose opening brace is at p
 abbrev pub made : ℕ → Place → Inner × Place → Piece × Place
 made number p r = (NextArgument (placeholder number (between p r.1) r.0), r.1)
 
-abbrev pub behind_brace : ℕ → Place → ℕ × Place → Option (Piece × Place)
-behind_brace number p r = option_map (made number p) (inner_at number r.1)
+abbrev pub behind_brace : (Place → Option (SpecParts × Place)) → ℕ → Place → ℕ × Place → Option (Piece × Place)
+behind_brace options number p r = option_map (made number p) (inner_at options r.1)
 
-unfoldable pub placeholder_at : ℕ → Place → Option (Piece × Place)
-placeholder_at number p = option_and_then (behind_brace number p) (first p)
+unfoldable pub placeholder_at : (Place → Option (SpecParts × Place)) → ℕ → Place → Option (Piece × Place)
+placeholder_at options number p = option_and_then (behind_brace options number p) (first p)
 
 -- the doubled brace that stands here, if the second brace is there
 abbrev pub second_brace : Place → ℕ × Place → Option (Piece × Place)
@@ -62,8 +63,12 @@ plain_text_at p = (Lit (between p (past is_plain p)), past is_plain p)
 abbrev pub tail_starts : (ℕ → Bool) → Place → Bool
 tail_starts test p = starts test (tail p.left)
 
--- the piece that stands here, where the next argument has this number
-unfoldable pub piece_at : ℕ → Place → Option (Piece × Place)
-piece_at number p = if starts is_plain p.left then Some (plain_text_at p)
-    else (if starts is_open p.left then (if tail_starts is_open p then doubled_at p else placeholder_at number p)
+-- the piece that stands here, where this reads the options, and the next argument has this number
+unfoldable pub piece_at : (Place → Option (SpecParts × Place)) → ℕ → Place → Option (Piece × Place)
+piece_at options number p = if starts is_plain p.left then Some (plain_text_at p)
+    else (if starts is_open p.left then (if tail_starts is_open p then doubled_at p else placeholder_at options number p)
     else (if tail_starts is_close p then doubled_at p else None))
+
+-- the piece of a format text that stands here
+abbrev pub format_piece_at : ℕ → Place → Option (Piece × Place)
+format_piece_at number = piece_at (format_at number) number

@@ -168,9 +168,13 @@ spec_of v = record {
 abbrev pub AreParts : ℕ → ℕ → List ℕ → SpecParts → List ℕ → Type 0
 AreParts number = Both IsAlign (Both (IsOne sign_test sign_of None) (Both (IsOne hash_test flag false) (Both (IsOne zero_test flag false) (Both IsCount (Both (IsPrecision number) IsType)))))
 
+-- the parts that give a type alone
+abbrev pub typed_parts : TextRange → SpecParts
+typed_parts ty = ((None, Unknown), (None, (false, (false, (no_count, (no_count, (None, ty)))))))
+
 -- the parts of a placeholder without a colon
 abbrev pub plain_parts : ℕ → SpecParts
-plain_parts at = ((None, Unknown), (None, (false, (false, (no_count, (no_count, (None, range at [])))))))
+plain_parts at = typed_parts (range at [])
 
 -- a colon with the parts behind it, or no colon; `number` is the number of the next argument
 abbrev pub IsFormat : ℕ → ℕ → List ℕ → SpecParts → List ℕ → Type 0

@@ -1,6 +1,6 @@
 use sym_core::TextRange;
 
-/// A piece of a format text. All ranges are in bytes of the text.
+/// A piece of a format text, or of a template of inline assembly. All ranges are in bytes of the text.
 #[derive(Clone, Copy, PartialEq, Eq, Debug)]
 pub enum Piece {
     /// Characters that stand for themselves, as many as follow; or one brace of a doubled brace, which stands for one.
@@ -26,6 +26,7 @@ pub struct Argument {
 #[derive(Clone, Copy, PartialEq, Eq, Debug)]
 pub enum Position {
     /// The next one: the number is how many placeholders and counts took one before.
+    /// In inline assembly it goes on from the number that the counter started at.
     ImplicitlyIs(usize),
     /// The one of this number.
     Is(usize),
@@ -56,7 +57,7 @@ pub struct FormatSpec {
     pub width: Count,
     /// Where the width is written.
     pub width_span: Option<TextRange>,
-    /// The type's text; empty where there is none.
+    /// The type's text, in inline assembly the modifier's; empty where there is none.
     pub ty: TextRange,
 }
 

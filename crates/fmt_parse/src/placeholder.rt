@@ -1,13 +1,14 @@
-ghost use Rattle.std.specs.Prelude.{◌≡◌, ◌≤◌, IfSome, option_map};
+ghost use Rattle.std.specs.Prelude.{◌≡◌, IfSome, option_map};
 ghost use Rattle.text_cut.specs.Place.{past};
 ghost use Rattle.text_cut.specs.Seen.{seen};
 ghost use Rattle.std.specs.Char.{is_whitespace};
 ghost use Rattle.fmt_parse.specs.Pieces.{stars, filled};
+ghost use Rattle.fmt_parse.specs.Mode.{options_at, HasRoom};
 ghost use Rattle.fmt_parse.specs.Format.{HasPlainWidth};
 ghost use Rattle.fmt_parse.specs.ReadPieces.{number_arg_at, name_arg_at, arg_at, end_at, placeholder_at};
 
+use crate::options::{Mode, options};
 use crate::piece::{Argument, Count, Piece, Position};
-use crate::spec::format_spec;
 use crate::token::{int, name, range, starts_digit, starts_name};
 use sym_core::TextRange;
 use text_cut::{Cursor, eat_while, next, starts_with};
@@ -89,14 +90,18 @@ fn filled(written: Option<Position>, number: usize) -> Position
 ///
 /// The next argument has this number.
 #[tactic(auto, unfolding(crate::specs::ReadPieces::placeholder_at))]
-pub(crate) fn placeholder(here: Cursor<'_>, number: usize) -> Option<(Piece, Cursor<'_>)>
-    requires { number ≤ 4_294_967_295 }
-    ensures value { option_map (λ r. (r.0, seen r.1)) result ≡ placeholder_at number (seen here.entry) }
+pub(crate) fn placeholder(
+    here: Cursor<'_>,
+    number: usize,
+    mode: Mode,
+) -> Option<(Piece, Cursor<'_>)>
+    requires { HasRoom mode number }
+    ensures value { option_map (λ r. (r.0, seen r.1)) result ≡ placeholder_at (options_at mode number) number (seen here.entry) }
     ensures width { IfSome result (λ r. HasPlainWidth r.0) }
 {
     let (_, begin) = next(here)?;
     let (written, position_span, behind) = argument(begin)?;
-    let (format, behind) = format_spec(behind, number)?;
+    let (format, behind) = options(behind, number, mode)?;
     let end = end(behind)?;
     let argument = Argument {
         position: filled(written, number + stars(format.precision)),

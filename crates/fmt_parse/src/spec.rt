@@ -4,7 +4,7 @@ ghost use Rattle.text_cut.specs.Place.{first};
 ghost use Rattle.text_cut.specs.Rules.{one_at};
 ghost use Rattle.text_cut.specs.Seen.{seen};
 ghost use Rattle.fmt_parse.specs.Tokens.{is_align, is_x};
-ghost use Rattle.fmt_parse.specs.Spec.{align_of, hex_of, sign_test, sign_of, hash_test, zero_test, flag, spec_of, plain_parts};
+ghost use Rattle.fmt_parse.specs.Spec.{align_of, hex_of, sign_test, sign_of, hash_test, zero_test, flag, spec_of, typed_parts, plain_parts};
 ghost use Rattle.fmt_parse.specs.Pieces.{stars};
 ghost use Rattle.fmt_parse.specs.ReadSpec.{filled_at, align_at, question_at, hex_at, name_type_at, type_at, parts_at, format_at};
 ghost use Rattle.fmt_parse.specs.Format.{parts_of};
@@ -195,9 +195,9 @@ fn parts(here: Cursor<'_>, number: usize) -> Option<(FormatSpec, Cursor<'_>)>
     Some((spec, end))
 }
 
-// What a placeholder without a colon says, which ends here.
-fn plain(here: Cursor<'_>) -> FormatSpec
-    ensures { result ≡ spec_of (plain_parts (seen here.entry).at) }
+/// What a type alone says.
+pub(crate) fn typed(ty: TextRange) -> FormatSpec
+    ensures { result ≡ spec_of (typed_parts ty) }
 {
     FormatSpec {
         fill: None,
@@ -210,8 +210,15 @@ fn plain(here: Cursor<'_>) -> FormatSpec
         precision_span: None,
         width: Count::Implied,
         width_span: None,
-        ty: range(here, here),
+        ty,
     }
+}
+
+/// What a placeholder without a colon says, which ends here.
+pub(crate) fn plain(here: Cursor<'_>) -> FormatSpec
+    ensures { result ≡ spec_of (plain_parts (seen here.entry).at) }
+{
+    typed(range(here, here))
 }
 
 /// What a colon and the parts behind it say here, and the place behind them; none where a part cannot be read.

@@ -1,6 +1,6 @@
 use ra_cfg::CfgExpr;
 use sqlite_items::Items;
-use syn_trees::FormatCall;
+use syn_trees::{AsmCall, FormatCall};
 
 /// A macro call of a function body, with what decides whether it is switched on.
 #[derive(Debug, Drop)]
@@ -16,4 +16,6 @@ pub struct GatedCall {
 pub enum Call {
     /// `format_args!`
     Format(FormatCall),
+    /// `asm!`, `global_asm!` or `naked_asm!`
+    Asm(AsmCall),
 }

@@ -96,6 +96,7 @@ module _ (a b c d : ExpressionStore) (binding : BindingId) (pat : PatId) (name :
       sources = same_three.sources ∙ same_two.sources ∙ same_one.sources;
       capture_sources = same_three.capture_sources ∙ same_two.capture_sources ∙ same_one.capture_sources;
       captures = same_three.captures ∙ same_two.captures ∙ same_one.captures;
+      mappings = same_three.mappings ∙ same_two.mappings ∙ same_one.mappings;
     });
   }
 

@@ -1,19 +1,21 @@
--- What is placed stays placed as a store grows, also in rows and in steps.
-use Rattle.std.proofs.Common.{◌≡◌, ◌<◌, Bool, List, [], ◌∷◌, ◌++◌, length, Some, refl, sym, ap, ap₂, ◌∙◌, subst, append_assoc, append-nil}
+-- What is placed stays placed as a store grows, also in rows, in steps and in operands.
+use Rattle.std.proofs.Common.{◌≡◌, ◌<◌, Bool, List, [], ◌∷◌, ◌++◌, length, Option, Some, refl, sym, ap, ap₂, ◌∙◌, subst, append_assoc, append-nil}
 use Rattle.sym_core.specs.declared.name.Name.{Name}
 use Rattle.hir_store.specs.declared.ids.ExprId.{ExprId}
 use Rattle.hir_store.specs.declared.expr.Expr.TheVariants as expr
 use Rattle.hir_store.specs.declared.expr.Statement.{Statement}
 use Rattle.hir_store.specs.declared.expr.Statement.TheVariants as statement
+use Rattle.hir_store.specs.declared.asm.AsmOperand.{AsmOperand}
+use Rattle.hir_store.specs.declared.asm.InlineAsm.{InlineAsm as Assembly}
 use Rattle.hir_store.specs.declared.store.ExpressionStore.{ExpressionStore}
-use Rattle.hir_store.specs.Tree.{Tree, Trees, Steps, Empty, More, Ref, Tuple, Array, Call, Block, Tail, Let, Do, trees}
-use Rattle.hir_store.specs.Unfolding.{place_of, name_in, trees_of, steps_of, tree_at}
+use Rattle.hir_store.specs.Tree.{Tree, Trees, Steps, Shape, Operands, Empty, More, Ref, Tuple, Array, Call, Block, InlineAsm, Tail, Let, Do, NoOperand, Operand, trees, operands}
+use Rattle.hir_store.specs.Unfolding.{place_of, name_in, trees_of, steps_of, operand_exprs, shape_of, operands_of, tree_at}
 use Rattle.hir_store.specs.Store.{Grows, Stands, AllStand, NoDanglingIds}
-use Rattle.hir_store.specs.Makes.{StepsMake}
+use Rattle.hir_store.specs.Makes.{StepsMake, OperandsMake}
 use Rattle.hir_store.proofs.Grown.{stays, stands_later, stands_as, all_later, all_on, trees_of_all, names_kept}
 use Rattle.hir_store.proofs.Made.{made}
-use Rattle.hir_build.specs.Origins.{Origin, bare, all_origins, steps_origins, origins_at}
-use Rattle.hir_build.specs.Placed.{Placed, AllPlaced, StepsPlaced, IsLet, reference_trees, reference_origins}
+use Rattle.hir_build.specs.Origins.{Origin, bare, all_origins, steps_origins, operands_origins, origins_at}
+use Rattle.hir_build.specs.Placed.{Placed, AllPlaced, StepsPlaced, OperandsPlaced, IsLet, reference_trees, reference_origins}
 use Rattle.hir_build.proofs.Origins.{origins_later}
 
 module _ (old new : ExpressionStore) (grows : Grows old new) where
@@ -68,6 +70,23 @@ module _ (old new : ExpressionStore) (grows : Grows old new) where
   steps_later ss tail steps os was = record {
     make = make_later ss tail steps was.make;
     come = steps_origins_later ss tail steps was.make ∙ was.come;
+  }
+
+  operands_make_later : (asm : List (Option Name × AsmOperand)) (made : Operands) → OperandsMake old asm made → OperandsMake new asm made
+  operands_make_later [] NoOperand make = tt
+  operands_make_later ((name, operand) ∷ asm) (Operand other shape ts made) make = (make.0, make.1, all_later old new (operand_exprs operand) ts grows make.2, operands_make_later asm made make.3)
+  operands_make_later [] (Operand other shape ts made) make = absurd make
+  operands_make_later (one ∷ asm) NoOperand make = absurd make
+
+  operands_origins_later : (asm : List (Option Name × AsmOperand)) (made : Operands) → OperandsMake old asm made → operands_origins (origins_at new) asm ≡ operands_origins (origins_at old) asm
+  operands_origins_later [] made make = refl
+  operands_origins_later ((name, operand) ∷ asm) (Operand other shape ts made) make = ap₂ (λ a b. a ++ b) (all_origins_later (operand_exprs operand) ts make.2) (operands_origins_later asm made make.3)
+  operands_origins_later (one ∷ asm) NoOperand make = absurd make
+
+  pub operands_later : (asm : List (Option Name × AsmOperand)) (made : Operands) (os : List Origin) → OperandsPlaced old asm made os → OperandsPlaced new asm made os
+  operands_later asm made os was = record {
+    make = operands_make_later asm made was.make;
+    come = operands_origins_later asm made was.make ∙ was.come;
   }
 
 pub placed_as : (store : ExpressionStore) (id : ExprId) (t u : Tree) (os more : List Origin) → t ≡ u → os ≡ more → Placed store id t os → Placed store id u more
@@ -137,6 +156,38 @@ module _ (store : ExpressionStore) where
       subst (λ x. StepsPlaced store (x ∷ ss) tail (Let name t steps) (os ++ more)) (sym one.is)
       (record { make = (one.binds, one.placed.stands, was.make); come = ap₂ (λ a b. a ++ b) one.placed.comes was.come })
 
+  -- Operands
+
+  pub operands_none : OperandsPlaced store [] NoOperand []
+  operands_none = record { make = tt; come = refl }
+
+  -- one more operand in front, where its expressions are placed
+  pub operands_cons : (name : Option Name) (operand : AsmOperand) (asm : List (Option Name × AsmOperand)) (ts : Trees) (made : Operands) (os more : List Origin) → AllPlaced store (operand_exprs operand) ts os →
+      OperandsPlaced store asm made more → OperandsPlaced store ((name, operand) ∷ asm) (Operand name (shape_of operand) ts made) (os ++ more)
+  operands_cons name operand asm ts made os more one was = record { make = (refl, refl, one.stand, was.make); come = ap₂ (λ a b. a ++ b) one.come was.come }
+
+  operands_make_on : (asm : List (Option Name × AsmOperand)) (parts : List (Option Name × Shape × Trees)) (name : Option Name) (operand : AsmOperand) (ts : Trees) → OperandsMake store asm (operands parts) →
+      AllStand store (operand_exprs operand) ts → OperandsMake store (asm ++ (name, operand) ∷ []) (operands (parts ++ (name, shape_of operand, ts) ∷ []))
+  operands_make_on [] [] name operand ts make one = (refl, refl, one, tt)
+  operands_make_on ((n, o) ∷ asm) ((m, shape, us) ∷ parts) name operand ts make one = (make.0, make.1, make.2, operands_make_on asm parts name operand ts make.3 one)
+  operands_make_on [] ((m, shape, us) ∷ parts) name operand ts make one = absurd make
+  operands_make_on (o ∷ asm) [] name operand ts make one = absurd make
+
+  operands_origins_on : (f : ExprId → List Origin) (asm : List (Option Name × AsmOperand)) (name : Option Name) (operand : AsmOperand) →
+      operands_origins f (asm ++ (name, operand) ∷ []) ≡ operands_origins f asm ++ all_origins f (operand_exprs operand)
+  operands_origins_on f [] name operand = append-nil (all_origins f (operand_exprs operand))
+  operands_origins_on f ((n, o) ∷ asm) name operand = ap (λ os. all_origins f (operand_exprs o) ++ os) (operands_origins_on f asm name operand)
+      ∙ sym (append_assoc (all_origins f (operand_exprs o)) (operands_origins f asm) (all_origins f (operand_exprs operand)))
+
+  -- one more operand behind, where its expressions are placed
+  pub operands_on : (asm : List (Option Name × AsmOperand)) (parts : List (Option Name × Shape × Trees)) (os : List Origin) (name : Option Name) (operand : AsmOperand) (ts : Trees) (more : List Origin) →
+      OperandsPlaced store asm (operands parts) os → AllPlaced store (operand_exprs operand) ts more →
+      OperandsPlaced store (asm ++ (name, operand) ∷ []) (operands (parts ++ (name, shape_of operand, ts) ∷ [])) (os ++ more)
+  operands_on asm parts os name operand ts more was one = record {
+    make = operands_make_on asm parts name operand ts was.make one.stand;
+    come = operands_origins_on (origins_at store) asm name operand ∙ ap₂ (λ a b. a ++ b) was.come one.come;
+  }
+
   -- Nodes over parts that are placed
 
   module _ (new : ExpressionStore) (id : ExprId) (own : Origin) where
@@ -157,6 +208,13 @@ module _ (store : ExpressionStore) where
         Placed new id (Block is_unsafe (steps_of (name_in store) (tree_at store) ss (Some tail))) (own ∷ steps_origins (origins_at store) ss (Some tail)) → Placed new id (Block is_unsafe steps) (own ∷ os)
     block_made ss tail is_unsafe steps os all was =
         placed_as new id _ (Block is_unsafe steps) _ (own ∷ os) (made store (expr.Block (Some tail) is_unsafe ss) (Block is_unsafe steps) (refl, all.make)).tree (ap (λ l. own ∷ l) all.come) was
+
+    pub assembly_made : (assembly : Assembly) (operands : Operands) (os : List Origin) → OperandsPlaced store assembly.operands operands os →
+        Placed new id (InlineAsm assembly.kind assembly.options (operands_of (tree_at store) assembly.operands)) (own ∷ operands_origins (origins_at store) assembly.operands) →
+        Placed new id (InlineAsm assembly.kind assembly.options operands) (own ∷ os)
+    assembly_made assembly operands os all was =
+        placed_as new id _ (InlineAsm assembly.kind assembly.options operands) _ (own ∷ os) (made store (expr.InlineAsm assembly) (InlineAsm assembly.kind assembly.options operands) (refl, refl, all.make)).tree
+        (ap (λ l. own ∷ l) all.come) was
 
   -- a `let` of a value that is placed
   pub let_made : (new : ExpressionStore) (s : Statement) (name : Name) (value : ExprId) (t : Tree) (os : List Origin) → Placed store value t os →

@@ -66,3 +66,11 @@ module _ (old new : ExpressionStore) (e : Expr) (id : ExprId) (places : PlacesEx
 pub builds_placed : (old : Frame) (new : ExpressionStore) (e : Expr) (id : ExprId) → NoDanglingIds old.store → Grows old.store new → PlacesExpr old.store e id new → Builds old (record old { store = new }) 1 0
 builds_placed old new e id sound grows places = builds_grown old new old.fresh 1 0 sound grows (omega arith) (omega arith)
     (omega (arith, ap length places.exprs, length-append old.store.exprs (e ∷ []))) (omega (arith, ap length places.pats)) (omega (arith, ap length places.bindings))
+
+-- an expression that was refused in the store of a builder, and may have stayed there
+pub builds_refused : (old : Frame) (new : ExpressionStore) (e : Expr) → NoDanglingIds old.store → Grows old.store new → (new ≡ old.store) ⊎ PlacesNewest old.store e new → Builds old (record old { store = new }) 1 0
+builds_refused old new e sound grows (inl same) = builds_grown old new old.fresh 1 0 sound grows (omega arith) (omega arith)
+    (omega (arith, ap (λ (s : ExpressionStore). length s.exprs) same)) (omega (arith, ap (λ (s : ExpressionStore). length s.pats) same)) (omega (arith, ap (λ (s : ExpressionStore). length s.bindings) same))
+builds_refused old new e sound grows (inr newest) = builds_grown old new old.fresh 1 0 sound grows (omega arith) (omega arith)
+    (omega (arith, ap (λ (s : ExpressionStore). length s.exprs) newest, length-append old.store.exprs (e ∷ []))) (omega (arith, ap (λ (s : ExpressionStore). length s.pats) newest))
+    (omega (arith, ap (λ (s : ExpressionStore). length s.bindings) newest))

@@ -12,17 +12,19 @@ use Rattle.hir_store.specs.declared.expr.Literal.{Literal}
 use Rattle.hir_store.specs.declared.expr.Literal.TheVariants as literal
 use Rattle.hir_store.specs.declared.expr.Statement.{Statement}
 use Rattle.hir_store.specs.declared.expr.Statement.TheVariants as statement
+use Rattle.hir_store.specs.declared.asm.AsmOperand.{AsmOperand}
 use Rattle.hir_store.specs.declared.pat.Pat.{Pat}
 use Rattle.hir_store.specs.declared.pat.Pat.TheVariants.{Bind}
 use Rattle.hir_store.specs.declared.pat.Binding.{Binding}
 use Rattle.hir_store.specs.declared.store.ExpressionStore.{ExpressionStore}
-use Rattle.hir_store.specs.Tree.{Tree, Trees, Steps, Empty, More, is_whole, all_whole, steps_whole}
-use Rattle.hir_store.specs.Unfolding.{place_of, bound_name, name_in, trees_of, let_step, steps_of, literal_tree, tree_at, tree_over}
-use Rattle.hir_store.specs.PartsBelow.{AllBelow, TailBelow}
+use Rattle.hir_store.specs.Tree.{Tree, Trees, Steps, Operands, Empty, More, NoOperand, Operand, is_whole, all_whole, steps_whole, operands_whole}
+use Rattle.hir_store.specs.Unfolding.{place_of, bound_name, name_in, trees_of, let_step, steps_of, operand_exprs, operands_of, literal_tree, tree_at, tree_over}
+use Rattle.hir_store.specs.PartsBelow.{AllBelow, TailBelow, OperandsBelow}
 use Rattle.hir_store.specs.Store.{Grows, AllStand, NoDanglingIds, BindsWithin}
+use Rattle.hir_store.specs.Makes.{OperandsMake}
 use Rattle.hir_store.proofs.Grown.{longer}
 use Rattle.hir_build.specs.Origins.{Origin}
-use Rattle.hir_build.specs.Placed.{AllPlaced, IsLet, StatementIn, StatementsIn, PartsIn}
+use Rattle.hir_build.specs.Placed.{AllPlaced, OperandsPlaced, IsLet, StatementIn, StatementsIn, PartsIn}
 
 -- a value at a place of a list, where the list is long enough
 record Has {A : Type 0} (xs : List A) (k : ℕ) : Type 0 where
@@ -72,6 +74,11 @@ module _ (store : ExpressionStore) (sound : NoDanglingIds store) where
   whole_steps (statement.Expr id ∷ ss) last within below = and_from (is_whole (tree_at store id)) (steps_whole (steps_of (name_in store) (tree_at store) ss last)) (sound.whole id within.0)
       (whole_steps ss last within.1 below)
 
+  whole_operands : (operands : List (Option Name × AsmOperand)) → OperandsBelow (length store.exprs) operands → IsTrue (operands_whole (operands_of (tree_at store) operands))
+  whole_operands [] below = refl
+  whole_operands ((name, operand) ∷ operands) below =
+      and_from (all_whole (trees_of (tree_at store) (operand_exprs operand))) (operands_whole (operands_of (tree_at store) operands)) (whole_row (operand_exprs operand) below.0) (whole_operands operands below.1)
+
   -- an expression whose parts are in the store makes a whole tree
   pub whole_over : (e : Expr) → PartsIn store e → IsTrue (is_whole (tree_over store e))
   whole_over expr.Missing within = refl
@@ -85,6 +92,7 @@ module _ (store : ExpressionStore) (sound : NoDanglingIds store) where
   whole_over (expr.Array ids) within = whole_row ids within
   whole_over (expr.Call callee args) within = and_from (is_whole (tree_at store callee)) (all_whole (trees_of (tree_at store) args)) (sound.whole callee within.0) (whole_row args within.1)
   whole_over (expr.Block last is_unsafe ss) within = whole_steps ss last within.0 within.1
+  whole_over (expr.InlineAsm assembly) within = whole_operands assembly.operands within
 
 -- Rows
 
@@ -98,13 +106,23 @@ below_at limit [] i none lt below = absurd (omega (arith, lt))
 below_at limit (id ∷ ids) zero none lt below = below.0
 below_at limit (id ∷ ids) (suc i) none lt below = below_at limit ids i none (omega (arith, lt)) below.1
 
+stand_below : (store : ExpressionStore) (ids : List ExprId) (ts : Trees) → AllStand store ids ts → AllBelow (length store.exprs) ids
+stand_below store [] ts all = tt
+stand_below store (id ∷ ids) (More t ts) all = (all.0.within, stand_below store ids ts all.1)
+stand_below store (id ∷ ids) Empty all = absurd all
+
 -- a row that is placed is in the store
 pub placed_below : (store : ExpressionStore) (ids : List ExprId) (ts : Trees) (os : List Origin) → AllPlaced store ids ts os → AllBelow (length store.exprs) ids
-placed_below store ids ts os was = stand_below ids ts was.stand where
-  stand_below : (ids : List ExprId) (ts : Trees) → AllStand store ids ts → AllBelow (length store.exprs) ids
-  stand_below [] ts all = tt
-  stand_below (id ∷ ids) (More t ts) all = (all.0.within, stand_below ids ts all.1)
-  stand_below (id ∷ ids) Empty all = absurd all
+placed_below store ids ts os was = stand_below store ids ts was.stand
+
+-- operands that are placed are in the store
+pub operands_in : (store : ExpressionStore) (operands : List (Option Name × AsmOperand)) (made : Operands) (os : List Origin) → OperandsPlaced store operands made os →
+    OperandsBelow (length store.exprs) operands
+operands_in store operands made os was = make_below operands made was.make where
+  make_below : (operands : List (Option Name × AsmOperand)) (made : Operands) → OperandsMake store operands made → OperandsBelow (length store.exprs) operands
+  make_below [] made make = tt
+  make_below ((name, operand) ∷ operands) (Operand other shape ts made) make = (stand_below store (operand_exprs operand) ts make.2, make_below operands made make.3)
+  make_below (one ∷ operands) NoOperand make = absurd make
 
 -- Statements
 

@@ -1,4 +1,4 @@
--- What a format call captures: a name that it uses has its place in the template, and the code of the call has all of them.
+-- What is kept of calls: a name that a format call uses has its place in the template, the code of the call has all of them, and the code of inline assembly has the operands that its templates put.
 use Rattle.std.specs.Prelude.{◌≡◌, List, Option, Some}
 use Rattle.la_arena.specs.Map.{with_slot}
 use Rattle.sym_core.specs.declared.files.AstPtr.{AstPtr}
@@ -8,6 +8,7 @@ use Rattle.sym_core.specs.declared.name.Name.{Name}
 use Rattle.sym_core.specs.declared.text_range.TextRange.{TextRange}
 use Rattle.hir_store.specs.declared.ids.ExprId.{ExprId}
 use Rattle.hir_store.specs.declared.source.CaptureSource.{CaptureSource}
+use Rattle.hir_store.specs.declared.asm.AsmRow.{AsmRow}
 use Rattle.hir_store.specs.declared.store.ExpressionStore.{ExpressionStore}
 use Rattle.hir_store.specs.Unfolding.{place_of}
 use Rattle.hir_store.specs.Sources.{with_entry}
@@ -33,3 +34,11 @@ with_captures store code usages = record store { format_args_to_captures = with_
 -- the code of a call has these captures, and all else is as it was
 abbrev pub Notes : Frame → ExprId → List (TextRange × Name) → Frame → Type 0
 Notes old code usages new = new ≡ record old { store = with_captures old.store code usages }
+
+-- the store in which the code of inline assembly has this mapping, template by template
+abbrev pub with_mapping : ExpressionStore → ExprId → List AsmRow → ExpressionStore
+with_mapping store code rows = record store { asm_to_captures = with_entry store.asm_to_captures code rows }
+
+-- the code of inline assembly has this mapping, and all else is as it was
+abbrev pub NotesMapping : Frame → ExprId → List AsmRow → Frame → Type 0
+NotesMapping old code rows new = new ≡ record old { store = with_mapping old.store code rows }

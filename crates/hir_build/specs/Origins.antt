@@ -4,14 +4,16 @@ use Rattle.la_arena.specs.Map.{slot_at}
 use Rattle.sym_core.specs.declared.files.AstPtr.{AstPtr}
 use Rattle.sym_core.specs.declared.files.HirFileId.{HirFileId}
 use Rattle.sym_core.specs.declared.files.InFile.{InFile}
+use Rattle.sym_core.specs.declared.name.Name.{Name}
 use Rattle.hir_store.specs.declared.ids.ExprId.{ExprId}
+use Rattle.hir_store.specs.declared.asm.AsmOperand.{AsmOperand}
 use Rattle.hir_store.specs.declared.expr.Expr.{Expr}
 use Rattle.hir_store.specs.declared.expr.Expr.TheVariants as expr
 use Rattle.hir_store.specs.declared.expr.Statement.{Statement}
 use Rattle.hir_store.specs.declared.expr.Statement.TheVariants as statement
 use Rattle.hir_store.specs.declared.source.CaptureSource.{CaptureSource}
 use Rattle.hir_store.specs.declared.store.ExpressionStore.{ExpressionStore}
-use Rattle.hir_store.specs.Unfolding.{place_of}
+use Rattle.hir_store.specs.Unfolding.{place_of, operand_exprs}
 
 -- the source of an expression, and where a format call captures it
 pub record Origin : Type 0 where
@@ -51,6 +53,11 @@ steps_origins origins_of [] last = tail_origins origins_of last
 steps_origins origins_of (statement.Let pat id ∷ rest) last = origins_of id ++ steps_origins origins_of rest last
 steps_origins origins_of (statement.Expr id ∷ rest) last = origins_of id ++ steps_origins origins_of rest last
 
+-- the origins of the operands of inline assembly, those of its expressions in their order
+abbrev pub operands_origins : (ExprId → List Origin) → List (Option Name × AsmOperand) → List Origin
+operands_origins origins_of [] = []
+operands_origins origins_of ((name, operand) ∷ operands) = all_origins origins_of (operand_exprs operand) ++ operands_origins origins_of operands
+
 -- the origins of the parts of an expression, one part behind the other
 abbrev pub node_origins : (ExprId → List Origin) → Expr → List Origin
 node_origins origins_of expr.Missing = []
@@ -64,6 +71,7 @@ node_origins origins_of (expr.Field id name) = origins_of id
 node_origins origins_of (expr.Array ids) = all_origins origins_of ids
 node_origins origins_of (expr.Call callee args) = origins_of callee ++ all_origins origins_of args
 node_origins origins_of (expr.Block last is_unsafe statements) = steps_origins origins_of statements last
+node_origins origins_of (expr.InlineAsm assembly) = operands_origins origins_of assembly.operands
 
 -- the origins of an index in a list of expressions, the newest first: its own in front of those of its parts
 abbrev pub origins_in : ExpressionStore → List Expr → ExprId → List Origin

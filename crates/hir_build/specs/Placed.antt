@@ -1,5 +1,5 @@
 -- What stands in a store, and where it comes from.
-use Rattle.std.specs.Prelude.{◌≡◌, ◌<◌, List, [], ◌∷◌, ◌++◌, length, Some, ⊤}
+use Rattle.std.specs.Prelude.{◌≡◌, ◌<◌, List, [], ◌∷◌, ◌++◌, length, Option, Some, ⊤}
 use Rattle.la_arena.specs.Idx.{number_of}
 use Rattle.sym_core.specs.declared.name.Name.{Name}
 use Rattle.hir_store.specs.declared.ids.ExprId.{ExprId}
@@ -8,13 +8,14 @@ use Rattle.hir_store.specs.declared.expr.Expr.{Expr}
 use Rattle.hir_store.specs.declared.expr.Expr.TheVariants as expr
 use Rattle.hir_store.specs.declared.expr.Statement.{Statement}
 use Rattle.hir_store.specs.declared.expr.Statement.TheVariants as statement
+use Rattle.hir_store.specs.declared.asm.AsmOperand.{AsmOperand}
 use Rattle.hir_store.specs.declared.store.ExpressionStore.{ExpressionStore}
-use Rattle.hir_store.specs.Tree.{Tree, Trees, Steps, Empty, More, Ref}
+use Rattle.hir_store.specs.Tree.{Tree, Trees, Steps, Operands, Empty, More, Ref}
 use Rattle.hir_store.specs.Unfolding.{place_of, name_in}
 use Rattle.hir_store.specs.PartsBelow.{TailBelow, PartsBelow}
 use Rattle.hir_store.specs.Store.{Stands, AllStand}
-use Rattle.hir_store.specs.Makes.{StepsMake}
-use Rattle.hir_build.specs.Origins.{Origin, bare, all_origins, steps_origins, origins_at}
+use Rattle.hir_store.specs.Makes.{StepsMake, OperandsMake}
+use Rattle.hir_build.specs.Origins.{Origin, bare, all_origins, steps_origins, operands_origins, origins_at}
 
 -- an index stands for this whole tree, and the expressions of it have these origins, in preorder
 pub record Placed (store : ExpressionStore) (id : ExprId) (tree : Tree) (origins : List Origin) : Type 0 where
@@ -30,6 +31,11 @@ pub record AllPlaced (store : ExpressionStore) (ids : List ExprId) (trees : Tree
 pub record StepsPlaced (store : ExpressionStore) (statements : List Statement) (tail : ExprId) (steps : Steps) (origins : List Origin) : Type 0 where
   pub make : StepsMake store statements (Some tail) steps
   pub come : steps_origins (origins_at store) statements (Some tail) ≡ origins
+
+-- the operands stand for those of the tree, and these are the origins of all their expressions
+pub record OperandsPlaced (store : ExpressionStore) (operands : List (Option Name × AsmOperand)) (made : Operands) (origins : List Origin) : Type 0 where
+  pub make : OperandsMake store operands made
+  pub come : operands_origins (origins_at store) operands ≡ origins
 
 -- the statement is a `let` that binds the name to a value that is placed
 pub record IsLet (store : ExpressionStore) (s : Statement) (name : Name) (tree : Tree) (origins : List Origin) : Type 0 where

@@ -1,19 +1,20 @@
 ghost use Rattle.std.specs.Prelude.{◌≡◌, ◌≢◌, ◌+◌, ◌<◌, ◌≤◌, max, [], ◌∷◌, ◌++◌, length, Some, None, IfOk, OnOk, OnErr};
 ghost use Rattle.sym_core.specs.declared.name.Name.{Name};
 ghost use Rattle.hir_store.specs.Tree.{Missing, Leaf, Path, Ref, Tuple, Field, Array, Call, Block};
-ghost use Rattle.hir_store.specs.Unfolding.{place_of, name_in, trees_of, steps_of, literal_tree, tree_at, tree_over};
-ghost use Rattle.hir_store.specs.PartsBelow.{AllBelow};
+ghost use Rattle.hir_store.specs.Tree as tree;
+ghost use Rattle.hir_store.specs.Unfolding.{place_of, name_in, trees_of, steps_of, operands_of, literal_tree, tree_at, tree_over};
+ghost use Rattle.hir_store.specs.PartsBelow.{AllBelow, OperandsBelow};
 ghost use Rattle.hir_store.specs.Store.{IsEmptyStore, NoDanglingIds, EachDefines};
-ghost use Rattle.hir_build.specs.Origins.{bare, from_source, all_origins, steps_origins, origins_at, origins_over};
+ghost use Rattle.hir_build.specs.Origins.{bare, from_source, all_origins, steps_origins, operands_origins, origins_at, origins_over};
 ghost use Rattle.hir_build.specs.Callee.{has_item, callee_tree, callee_origin};
 ghost use Rattle.hir_build.specs.Placed.{Placed, AllPlaced, IsLet, StatementIn, StatementsIn, PartsIn, reference_trees, reference_origins};
 ghost use Rattle.hir_build.specs.Building.{Builds, Outgrows};
-ghost use Rattle.hir_build.specs.Captures.{capture_origin, EntersCapture, Notes};
+ghost use Rattle.hir_build.specs.Captures.{capture_origin, EntersCapture, Notes, NotesMapping};
 
 use crate::LowerError;
 use hir_store::{
-    CaptureSource, Expr, ExprId, ExprIds, ExpressionStore, LangFn, LangItem, LangItems, Literal,
-    Pat, Statement,
+    AsmRow, CaptureSource, Expr, ExprId, ExprIds, ExpressionStore, InlineAsm, LangFn, LangItem,
+    LangItems, Literal, Pat, Statement,
 };
 use sqlite_items::{Boxed, Items};
 use std::alloc::{AllocError, Global};
@@ -279,6 +280,23 @@ impl Builder {
         self.place(expr, ptr)
     }
 
+    /// Places inline assembly, with its pointer where it has one.
+    ///
+    /// The expressions of its operands must be in the store.
+    pub fn inline_asm(&mut self, asm: InlineAsm, ptr: Option<AstPtr>) -> Result<ExprId, LowerError>
+        requires within { OperandsBelow (length self.old.store.exprs) asm.operands }
+        ensures placed { IfOk result (λ made. Placed self.new.store made
+            (tree.InlineAsm asm.kind asm.options (operands_of (tree_at self.old.store) asm.operands))
+            (from_source self.old.file ptr ∷ operands_origins (origins_at self.old.store) asm.operands)) }
+        ensures later { IfOk result (λ made. length self.old.store.exprs ≤ place_of made) }
+        ensures newest { IfOk result (λ made. place_of made + 1 ≡ length self.new.store.exprs) }
+        ensures builds { Builds self.old self.new 1 0 }
+        ensures longer { length self.old.store.exprs ≤ length self.new.store.exprs }
+        ensures full { result ≡ Err LowerError.ArenaFull → Outgrows self.old.store 1 0 }
+    {
+        self.place(Expr::InlineAsm(asm), ptr)
+    }
+
     /// Places a reference to each expression, in their order.
     ///
     /// # Errors
@@ -367,6 +385,22 @@ impl Builder {
         ensures memory { result ≢ Err LowerError.ArenaFull }
     {
         self.store.format_args_to_captures.insert(code, usages)?;
+        Ok(())
+    }
+
+    /// Enters which operands the templates of inline assembly put at its code: for each template, and each placeholder
+    /// there that denotes an operand, the bytes that say which, and the place of the operand among all, from 0.
+    ///
+    /// # Errors
+    ///
+    /// The builder is then as it was.
+    pub fn note_mapping(&mut self, code: ExprId, rows: Items<AsmRow>) -> Result<(), LowerError>
+        requires within { place_of code < length self.old.store.exprs }
+        ensures notes { OnOk result (NotesMapping self.old code rows self.new) }
+        ensures err { OnErr result (self.new ≡ self.old) }
+        ensures memory { result ≢ Err LowerError.ArenaFull }
+    {
+        self.store.asm_to_captures.insert(code, rows)?;
         Ok(())
     }
 

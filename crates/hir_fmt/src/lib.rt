@@ -22,3 +22,4 @@ pub use format_args::{
     FormatOptions, FormatPlaceholder, FormatSign, FormatTrait,
 };
 pub use parser::parse;
+pub use read::{literal_value, span_shift};

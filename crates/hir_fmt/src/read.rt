@@ -20,8 +20,17 @@ pub(crate) struct Format {
     pub(crate) pieces: Vec<Piece>,
 }
 
-// What a literal stands for, if it stands for something.
-fn read_value(alloc: Global, s: &StringLit) -> Result<Option<Symbol>, AllocError>
+/// What a literal stands for; none where it has no value.
+///
+/// ```
+/// let literal = StringLit::new(Symbol::new(alloc, "\"a\\x41\"")?)?;
+/// assert!(literal_value(alloc, &literal)?.is_some_and(|text| text.as_str() == "aA"));
+/// ```
+///
+/// # Errors
+///
+/// Returns an error if there is no memory.
+pub fn literal_value(alloc: Global, s: &StringLit) -> Result<Option<Symbol>, AllocError>
     ensures { IfOk result (IsValueRead s.now) }
 {
     let _ = s.text();
@@ -60,7 +69,7 @@ pub(crate) fn read_format(alloc: Global, s: &StringLit) -> Result<Option<Format>
     ensures { IfOk result (IsFormatRead s.now) }
 {
     one_value();
-    let Some(text) = read_value(alloc, s)? else {
+    let Some(text) = literal_value(alloc, s)? else {
         return Ok(None);
     };
     let Some(pieces) = read_pieces(alloc, text.as_str())? else {
@@ -69,8 +78,9 @@ pub(crate) fn read_format(alloc: Global, s: &StringLit) -> Result<Option<Format>
     Ok(Some(Format { text, pieces }))
 }
 
-// By how much a range of a literal's value is shifted to be a span; none where no spans are given.
-fn shift(s: &StringLit, is_direct: bool) -> Option<u32>
+/// By how much a range of a literal's value is shifted to be a span, which is a range of its token. None where no spans are
+/// given: where the template is not the literal itself, or its value is not what stands between its quotes.
+pub fn span_shift(s: &StringLit, is_direct: bool) -> Option<u32>
     ensures shift { HasShift s.now is_direct result }
     ensures short { (text : List ℕ) → FitsBetweenQuotes s.now text → IfSome result (λ by. by + length text ≤ 4_294_967_295) }
 {
@@ -94,7 +104,7 @@ pub(crate) fn literal<'a>(s: &StringLit, text: &'a str, ptr: AstPtr, is_direct: 
 {
     Literal {
         text,
-        shift: shift(s, is_direct),
+        shift: span_shift(s, is_direct),
         is_direct,
         ptr,
     }

@@ -15,7 +15,7 @@ use Rattle.hir_store.specs.declared.ids.ExprId.{ExprId}
 use Rattle.hir_store.specs.declared.store.ExpressionStore.{ExpressionStore}
 use Rattle.hir_store.specs.Tree.{Path}
 use Rattle.hir_store.specs.Unfolding.{place_of, tree_at}
-use Rattle.hir_store.specs.Sources.{captures_at}
+use Rattle.hir_store.specs.Sources.{entry_at}
 use Rattle.hir_store.specs.PartsBelow.{AllBelow}
 use Rattle.hir_fmt.specs.declared.format_args.FormatArgument.{FormatArgument}
 use Rattle.hir_fmt.specs.declared.format_args.FormatArguments.{FormatArguments}
@@ -234,7 +234,7 @@ module _ (around : Surroundings) (call : FormatCall) {f0 f1 f2 : Frame} {args : 
   outgrows_call full most size = let whole = size_is most size in outgrows_later _ 2 most 2 (builds_then walk.first walk.places.builds) full (omega (arith, whole)) (omega arith)
 
   -- the code of the call
-  pub call_code : (f3 : Frame) (id : ExprId) → IsCodeOf f2 f3.store call.ptr parsed.fmt id → captures_at f3.store.format_args_to_captures (place_of id) ≡ Some parsed.usages → IsCallCode around call f0.fresh f3.store id
+  pub call_code : (f3 : Frame) (id : ExprId) → IsCodeOf f2 f3.store call.ptr parsed.fmt id → entry_at f3.store.format_args_to_captures (place_of id) ≡ Some parsed.usages → IsCallCode around call f0.fresh f3.store id
   call_code f3 id code captures = by_cases walk.is
     where
       fresh : f2.fresh ≡ f0.fresh

@@ -2,6 +2,9 @@
 use Rattle.std.specs.Prelude.{◌≡◌, ℕ, ◌+◌, ◌<◌, ◌≤◌, false, suc, List, [], ◌∷◌, ◌++◌, length, IfOk, Result, Ok, Err, refl}
 use Rattle.std.proofs.Common.{sym, ◌∙◌, subst, arith, inl, inr}
 use Rattle.syn_trees.specs.declared.format_call.FormatCall.{FormatCall}
+use Rattle.syn_trees.specs.declared.asm_call.AsmCall.{AsmCall}
+use Rattle.hir_asm.specs.Lowered.{IsAsmCode}
+use Rattle.hir_asm.specs.Lowered as asm
 use Rattle.hir_store.specs.declared.ids.ExprId.{ExprId}
 use Rattle.hir_store.specs.declared.store.ExpressionStore.{ExpressionStore}
 use Rattle.hir_store.specs.Unfolding.{place_of, tree_at}
@@ -9,7 +12,7 @@ use Rattle.ra_cfg.specs.Options.{OptionSet}
 use Rattle.ra_cfg.specs.Reading.{is_off}
 use Rattle.gated_calls.specs.declared.call.GatedCall.{GatedCall}
 use Rattle.gated_calls.specs.declared.call.Call.{Call}
-use Rattle.gated_calls.specs.declared.call.Call.TheVariants.{Format}
+use Rattle.gated_calls.specs.declared.call.Call.TheVariants.{Format, Asm}
 use Rattle.format_code.specs.FormatCall.{Surroundings}
 use Rattle.format_code.specs.CallCode.{IsCallTree}
 use Rattle.format_code.proofs.CallRuns.{complete_runs, well_formed_runs, empty_runs}
@@ -22,7 +25,7 @@ use Rattle.hir_lower.specs.declared.outcome.Outcome.{Outcome}
 use Rattle.hir_lower.specs.declared.outcome.Outcome.TheVariants.{Off, Code}
 use Rattle.hir_lower.specs.CallCode.{IsCallCode, HasSources}
 use Rattle.hir_lower.specs.CallParsed.{GrowsSome}
-use Rattle.hir_lower.specs.Lowered.{IsFormatCode, IsCode, AreOutcomes, AreRising, AreInStore, IsMost, IsMostOf, IsMostGated, AreMost, lets_of, most_lets, PlacesCall, LowersCall, Lowers}
+use Rattle.hir_lower.specs.Lowered.{IsFormatCode, reaches, IsCode, AreOutcomes, AreRising, AreInStore, IsMost, IsMostOf, IsMostGated, AreMost, lets_in, lets_of, most_lets, PlacesCall, LowersCall, Lowers}
 use Rattle.hir_lower.proofs.WrittenLaws.{longer}
 
 -- The code of one call
@@ -56,8 +59,16 @@ module _ {old new : Frame} {most lets : ℕ} (builds : Builds old new most lets)
     captures = builds.grows.older.captures (place_of id) within ∙ is.captures;
   })
 
-  code_later : (call : Call) (id : ExprId) → IsCode around old.store call id → IsCode around new.store call id
-  code_later (Format call) id code = format_code_of around call code.fresh new.store id (record {
+  code_later : (options : OptionSet) (call : Call) (id : ExprId) → IsCode options around old.store call id → IsCode options around new.store call id
+  code_later options (Asm call) id code = record {
+    within = let more = longer builds in omega (arith, code.within);
+    tree = builds.trees id code.within ∙ code.tree;
+    origins = origins_later old.store new.store id builds.grows code.within ∙ code.origins;
+    mapping = code.mapping;
+    maps = code.maps;
+    entered = builds.grows.older.mappings (place_of id) code.within ∙ code.entered;
+  }
+  code_later options (Format call) id code = format_code_of around call code.fresh new.store id (record {
     within = let more = longer builds in omega (arith, code.is.within);
     tree = subst (IsCallTree around call code.fresh) (sym (builds.trees id code.is.within)) code.is.tree;
     sources = sources_later call id code.is.within code.is.sources;
@@ -65,8 +76,8 @@ module _ {old new : Frame} {most lets : ℕ} (builds : Builds old new most lets)
 
 -- What calls became
 
--- a call that is not off binds two names
-on_lets : (options : OptionSet) (call : GatedCall) → is_off options call.cfgs ≡ false → lets_of options call ≡ 2
+-- a call that is not off binds the names of its kind
+on_lets : (options : OptionSet) (call : GatedCall) → is_off options call.cfgs ≡ false → lets_of options call ≡ lets_in call.call
 on_lets options call on = rw on refl
 
 -- calls that were lowered make the store grow
@@ -79,8 +90,8 @@ lowers_grow options around (call ∷ calls) (Off why dnf ∷ outcomes) old new w
     (rest.0, subst (λ frame. Builds frame new rest.0 (lets_of options call + most_lets options calls)) were.1.1 (builds_within rest.1 (omega arith) (omega arith)))
 lowers_grow options around (call ∷ calls) (Code id ∷ outcomes) old new were =
     let rest = lowers_grow options around calls outcomes were.0 new were.2 in
-    let two = on_lets options call were.1.0 in
-    (were.1.1.grown.0 + rest.0, builds_within (builds_then were.1.1.grown.1 rest.1) (omega arith) (omega (arith, two)))
+    let lets = on_lets options call were.1.0 in
+    (were.1.1.grown.0 + rest.0, builds_within (builds_then were.1.1.grown.1 rest.1) (omega arith) (omega (arith, lets)))
 
 pub outcomes_are : (options : OptionSet) (around : Surroundings) (calls : List GatedCall) (outcomes : List Outcome) (old new : Frame) → Lowers options around calls outcomes old new → AreOutcomes options around new.store calls outcomes
 outcomes_are options around [] [] old new were = tt
@@ -89,7 +100,7 @@ outcomes_are options around (call ∷ calls) [] old new were = were
 outcomes_are options around (call ∷ calls) (Off why dnf ∷ outcomes) old new were = (were.1.0, outcomes_are options around calls outcomes were.0 new were.2)
 outcomes_are options around (call ∷ calls) (Code id ∷ outcomes) old new were =
     let grown = lowers_grow options around calls outcomes were.0 new were.2 in
-    ((were.1.0, code_later grown.1 around call.call id were.1.1.code), outcomes_are options around calls outcomes were.0 new were.2)
+    ((were.1.0, code_later grown.1 around options call.call id were.1.1.code), outcomes_are options around calls outcomes were.0 new were.2)
 
 rising_lower : (least more : ℕ) (outcomes : List Outcome) → least ≤ more → AreRising more outcomes → AreRising least outcomes
 rising_lower least more [] le are = tt
@@ -142,19 +153,32 @@ lets_both options (call ∷ xs) ys = let more = lets_both options xs ys in omega
 -- The steps of one call
 
 -- the code of a format call that was placed
-pub placed_call : (around : Surroundings) (old new : Frame) (format : FormatCall) (result : Result ExprId LowerError) → ((most : ℕ) → IsMost around format most → Builds old new most 2) → GrowsSome old new 2
-    → IfOk result (λ made. IsCallCode around format old.fresh new.store made) → IfOk result (λ made. length old.store.exprs ≤ place_of made) → IfOk result (λ made. PlacesCall around old (Format format) made new)
-placed_call around old new format (Ok id) builds grown code later = record { code = format_code_of around format old.fresh new.store id code; within = code.within; later = later; grown = grown; builds = builds }
-placed_call around old new format (Err error) builds grown code later = tt
+pub placed_call : (options : OptionSet) (around : Surroundings) (old new : Frame) (format : FormatCall) (result : Result ExprId LowerError) → ((most : ℕ) → IsMost around format most → Builds old new most 2) → GrowsSome old new 2
+    → IfOk result (λ made. IsCallCode around format old.fresh new.store made) → IfOk result (λ made. length old.store.exprs ≤ place_of made) → IfOk result (λ made. PlacesCall options around old (Format format) made new)
+placed_call options around old new format (Ok id) builds grown code later = record { code = format_code_of around format old.fresh new.store id code; within = code.within; later = later; grown = grown; builds = builds }
+placed_call options around old new format (Err error) builds grown code later = tt
+
+-- the code of a call of inline assembly that was placed
+pub placed_asm : (options : OptionSet) (around : Surroundings) (old new : Frame) (call : AsmCall) (result : Result ExprId LowerError) → Builds old new (asm.most_of call) 0
+    → IfOk result (λ made. IsAsmCode options (reaches around) around.file call new.store made) → IfOk result (λ made. length old.store.exprs ≤ place_of made) → IfOk result (λ made. PlacesCall options around old (Asm call) made new)
+placed_asm options around old new call (Ok id) builds code later = record {
+  code = code;
+  within = code.within;
+  later = later;
+  grown = (asm.most_of call, builds);
+  builds = λ most is. subst (λ n. Builds old new n 0) (sym is) builds;
+}
+placed_asm options around old new call (Err error) builds code later = tt
 
 module _ (around : Surroundings) (most : ℕ) where
-  most_two : (call : Call) → IsMostOf around call most → 2 ≤ most
-  most_two (Format call) (inl is) = omega (arith, is.3)
-  most_two (Format call) (inr is) = omega (arith, is.1)
+  most_lets_in : (call : Call) → IsMostOf around call most → lets_in call ≤ most
+  most_lets_in (Format call) (inl is) = omega (arith, is.3)
+  most_lets_in (Format call) (inr is) = omega (arith, is.1)
+  most_lets_in (Asm call) is = omega arith
 
   lets_least : (options : OptionSet) (call : GatedCall) → IsMostGated options around call most → lets_of options call ≤ most
   lets_least options call (inl off) = let none : lets_of options call ≡ 0 = rw off.0 refl in omega (arith, none)
-  lets_least options call (inr on) = let two = on_lets options call on.0 in let least = most_two call.call on.1 in omega (arith, two, least)
+  lets_least options call (inr on) = let lets = on_lets options call on.0 in let least = most_lets_in call.call on.1 in omega (arith, lets, least)
 
 -- calls place no more patterns than expressions
 pub lets_fewer : (options : OptionSet) (around : Surroundings) (calls : List GatedCall) (most : ℕ) → AreMost options around calls most → most_lets options calls ≤ most

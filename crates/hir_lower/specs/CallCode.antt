@@ -10,7 +10,7 @@ use Rattle.fmt_parse.specs.declared.piece.Piece.{Piece}
 use Rattle.hir_store.specs.declared.ids.ExprId.{ExprId}
 use Rattle.hir_store.specs.declared.store.ExpressionStore.{ExpressionStore}
 use Rattle.hir_store.specs.Unfolding.{place_of, tree_at}
-use Rattle.hir_store.specs.Sources.{captures_at}
+use Rattle.hir_store.specs.Sources.{entry_at}
 use Rattle.hir_build.specs.Origins.{Origin, origins_at}
 use Rattle.hir_build.specs.Captures.{capture_origin}
 use Rattle.hir_fmt.specs.References.{Source, references_of}
@@ -57,13 +57,13 @@ pub record ComesFrom (around : Surroundings) (call : FormatCall) (source : Sourc
   pub reached : token_in around call ≡ Some token
   pub is : IsTextOf token (is_direct_if call.template) source pieces
   pub origins : origins_at store id ≡ origins_in around call source pieces
-  pub captures : captures_at store.format_args_to_captures (place_of id) ≡ Some (usages_told (told_in call source pieces))
+  pub captures : entry_at store.format_args_to_captures (place_of id) ≡ Some (usages_told (told_in call source pieces))
 
 -- the origins of the code are those of a call without pieces, which captures nothing
 pub record ComesFromNone (around : Surroundings) (call : FormatCall) (store : ExpressionStore) (id : ExprId) : Type 0 where
   pub none : HasNoPieces around call
   pub origins : origins_at store id ≡ format_origins around.file around.items call.ptr (map written_syntax call.args) (map (written_origins around.file) call.args) [] []
-  pub captures : captures_at store.format_args_to_captures (place_of id) ≡ Some []
+  pub captures : entry_at store.format_args_to_captures (place_of id) ≡ Some []
 
 abbrev pub HasSources : Surroundings → FormatCall → ExpressionStore → ExprId → Type 0
 HasSources around call store id = ((source : Source) × (pieces : List Piece) × ComesFrom around call source pieces store id) ⊎ ComesFromNone around call store id

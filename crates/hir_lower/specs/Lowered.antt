@@ -12,9 +12,13 @@ use Rattle.ra_cfg.specs.Reading.{is_off}
 use Rattle.cfg_dnf.specs.Hints.{Reason, reason}
 use Rattle.cfg_dnf.specs.Joined.{joined}
 use Rattle.syn_trees.specs.declared.format_call.FormatCall.{FormatCall}
+use Rattle.syn_trees.specs.declared.format_call.Template.{Template}
+use Rattle.hir_expander.specs.Reached.{literal_of}
+use Rattle.hir_asm.specs.Lowered.{IsAsmCode}
+use Rattle.hir_asm.specs.Lowered as asm
 use Rattle.gated_calls.specs.declared.call.GatedCall.{GatedCall}
 use Rattle.gated_calls.specs.declared.call.Call.{Call}
-use Rattle.gated_calls.specs.declared.call.Call.TheVariants.{Format}
+use Rattle.gated_calls.specs.declared.call.Call.TheVariants.{Format, Asm}
 use Rattle.fmt_parse.specs.declared.piece.Piece.{Piece}
 use Rattle.template_bytes.specs.Pairs.{pairs_of}
 use Rattle.format_code.specs.Code.{LeafArgument, event_of, write_with}
@@ -38,9 +42,14 @@ pub record IsFormatCode (around : Surroundings) (store : ExpressionStore) (call 
   pub complete : (text : List ℕ) (pieces : List Piece) (writes : List (Write ℕ)) → IsComplete around call text pieces writes → Evaluates (tree_at store id) (complete_events call text pieces) (map (write_with At) writes)
   pub empty : HasNoPieces around call → AllThere call.args → IsTrue around.items.format_arguments → Evaluates (tree_at store id) (map event_of (map LeafArgument (leaves_of call.args))) []
 
+-- the literal that a template reaches where calls stand
+abbrev pub reaches : Surroundings → Template → Option (List ℕ)
+reaches around template = literal_of around.resolved around.expanded around.limit around.file template
+
 -- the code of a call
-abbrev pub IsCode : Surroundings → ExpressionStore → Call → ExprId → Type 0
-IsCode around store (Format call) id = IsFormatCode around store call id
+abbrev pub IsCode : OptionSet → Surroundings → ExpressionStore → Call → ExprId → Type 0
+IsCode options around store (Format call) id = IsFormatCode around store call id
+IsCode options around store (Asm call) id = IsAsmCode options (reaches around) around.file call store id
 
 -- a call is off: one of its predicates, by itself, evaluates to false; why, and what is told of its predicates taken together
 pub record IsOff (options : OptionSet) (call : GatedCall) (why : Option Reason) (dnf : CfgExpr) : Type 0 where
@@ -51,7 +60,7 @@ pub record IsOff (options : OptionSet) (call : GatedCall) (why : Option Reason) 
 -- what becomes of a call under options: off exactly where one of its predicates, each by itself, evaluates to false; else code
 abbrev pub IsOutcome : OptionSet → Surroundings → ExpressionStore → GatedCall → Outcome → Type 0
 IsOutcome options around store call (Off why dnf) = IsOff options call why dnf
-IsOutcome options around store call (Code id) = (is_off options call.cfgs ≡ false) × IsCode around store call.call id
+IsOutcome options around store call (Code id) = (is_off options call.cfgs ≡ false) × IsCode options around store call.call id
 
 -- one outcome for each call, in order
 abbrev pub AreOutcomes : OptionSet → Surroundings → ExpressionStore → List GatedCall → List Outcome → Type 0
@@ -93,6 +102,7 @@ IsMost around call most =
 
 abbrev pub IsMostOf : Surroundings → Call → ℕ → Type 0
 IsMostOf around (Format call) most = IsMost around call most
+IsMostOf around (Asm call) most = most ≡ asm.most_of call
 
 -- this is the most that a gated call places: nothing where it is off
 abbrev pub IsMostGated : OptionSet → Surroundings → GatedCall → ℕ → Type 0
@@ -103,9 +113,14 @@ abbrev pub AreMost : OptionSet → Surroundings → List GatedCall → ℕ → T
 AreMost options around [] most = most ≡ 0
 AreMost options around (call ∷ calls) most = (one : ℕ) × (rest : ℕ) × IsMostGated options around call one × AreMost options around calls rest × (most ≡ one + rest)
 
--- the most patterns that a gated call places, and the most bindings: none where it is off
+-- the most patterns that a call places, and the most bindings
+abbrev pub lets_in : Call → ℕ
+lets_in (Format call) = 2
+lets_in (Asm call) = 0
+
+-- those that a gated call places: none where it is off
 abbrev pub lets_of : OptionSet → GatedCall → ℕ
-lets_of options call = cond (is_off options call.cfgs) 0 2
+lets_of options call = cond (is_off options call.cfgs) 0 (lets_in call.call)
 
 -- the most patterns that calls place, and the most bindings
 abbrev pub most_lets : OptionSet → List GatedCall → ℕ
@@ -113,17 +128,17 @@ most_lets options [] = 0
 most_lets options (call ∷ calls) = lets_of options call + most_lets options calls
 
 -- the code of a call was placed: it is in the new store, behind all that was in the old one
-pub record PlacesCall (around : Surroundings) (old : Frame) (call : Call) (id : ExprId) (new : Frame) : Type 0 where
-  pub code : IsCode around new.store call id
+pub record PlacesCall (options : OptionSet) (around : Surroundings) (old : Frame) (call : Call) (id : ExprId) (new : Frame) : Type 0 where
+  pub code : IsCode options around new.store call id
   pub within : place_of id < length new.store.exprs
   pub later : length old.store.exprs ≤ place_of id
-  pub grown : GrowsSome old new 2
-  pub builds : (most : ℕ) → IsMostOf around call most → Builds old new most 2
+  pub grown : GrowsSome old new (lets_in call)
+  pub builds : (most : ℕ) → IsMostOf around call most → Builds old new most (lets_in call)
 
 -- a gated call was lowered: an off call leaves all as it was; the code of any other was placed
 abbrev pub LowersCall : OptionSet → Surroundings → GatedCall → Outcome → Frame → Frame → Type 0
 LowersCall options around call (Off why dnf) old new = IsOff options call why dnf × (new ≡ old)
-LowersCall options around call (Code id) old new = (is_off options call.cfgs ≡ false) × PlacesCall around old call.call id new
+LowersCall options around call (Code id) old new = (is_off options call.cfgs ≡ false) × PlacesCall options around old call.call id new
 
 -- calls were lowered one after the other, with one outcome each: every call takes what the calls in front of it left
 abbrev pub Lowers : OptionSet → Surroundings → List GatedCall → List Outcome → Frame → Frame → Type 0

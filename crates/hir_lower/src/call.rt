@@ -3,7 +3,7 @@
 ghost use Rattle.std.specs.Prelude.{◌≡◌, ◌+◌, ◌*◌, ◌<◌, ◌≤◌, ℕ, false, Some, IfOk, length};
 ghost use Rattle.hir_store.specs.Unfolding.{place_of};
 ghost use Rattle.hir_store.specs.PartsBelow.{AllBelow};
-ghost use Rattle.hir_store.specs.Sources.{captures_at};
+ghost use Rattle.hir_store.specs.Sources.{entry_at};
 ghost use Rattle.hir_build.specs.Building.{Builds, Outgrows};
 ghost use Rattle.template_bytes.specs.Canonical.{canonical_pieces};
 ghost use Rattle.template_bytes.specs.Pairs.{pairs_of};
@@ -88,7 +88,7 @@ fn finish_call(
     requires arguments { AllBelow (length builder.old.store.exprs) (exprs_of parsed.fmt.arguments.arguments) }
     requires orphans { AllBelow (length builder.old.store.exprs) parsed.fmt.orphans }
     ensures code { IfOk result (λ made. IsCodeOf builder.old builder.new.store ptr parsed.fmt made) }
-    ensures captures { IfOk result (λ made. captures_at builder.new.store.format_args_to_captures (place_of made) ≡ Some parsed.usages) }
+    ensures captures { IfOk result (λ made. entry_at builder.new.store.format_args_to_captures (place_of made) ≡ Some parsed.usages) }
     ensures later { IfOk result (λ made. length builder.old.store.exprs ≤ place_of made) }
     ensures builds { Builds builder.old builder.new (length parsed.fmt.arguments.arguments + 4 * length (pairs_of (canonical_pieces parsed.fmt.template)) + 9) 2 }
     ensures full { result ≡ Err LowerError.ArenaFull → Outgrows builder.old.store (length parsed.fmt.arguments.arguments + 4 * length (pairs_of (canonical_pieces parsed.fmt.template)) + 9) 2 }

@@ -8,11 +8,13 @@ ghost use Rattle.hir_store.specs.Store.{Grows, NoDanglingIds, IsEmptyStore, Each
 ghost use Rattle.hir_build.specs.Building.{Outgrows};
 ghost use Rattle.template_bytes.specs.Canonical.{canonical_pieces};
 ghost use Rattle.template_bytes.specs.Pairs.{pairs_of};
+ghost use Rattle.hir_asm.specs.Lowered.{IsAsmCode, most_of};
 ghost use Rattle.hir_lower.specs.Collector.{Stays, around, frame_of};
 ghost use Rattle.hir_lower.specs.FormatArgs.{IsCodeOf, exprs_of, fresh_behind};
 ghost use Rattle.hir_lower.specs.CallCode.{IsCallCode};
-ghost use Rattle.hir_lower.specs.Lowered.{AreOutcomes, AreRising, AreInStore, IsMost, AreMost, Lowers, most_lets};
+ghost use Rattle.hir_lower.specs.Lowered.{reaches, AreOutcomes, AreRising, AreInStore, IsMost, AreMost, Lowers, most_lets};
 
+use crate::asm::lower_asm_call;
 use crate::call::lower_format_call;
 use crate::format_args::build_format_args;
 use crate::lowering::Lowering;
@@ -25,7 +27,7 @@ use ra_cfg::CfgOptions;
 use std::alloc::Global;
 use std::marker::Model;
 use sym_core::{AstPtr, FileId, HirFileId};
-use syn_trees::{FormatCall, StringLit, Template};
+use syn_trees::{AsmCall, FormatCall, StringLit, Template};
 
 /// Lowers calls of one file into a store of its own.
 ///
@@ -172,6 +174,37 @@ impl ExprCollector {
         build_format_args(&mut self.inside.builder, alloc, ptr, &fmt)
     }
 
+    /// Lowers a call of inline assembly under options, and returns its code.
+    ///
+    /// Its operands and its options are those of its pieces that none of their predicates switches off, in order. The map of
+    /// inline assembly has at the code which operands the templates put: a number denotes the operand at that place, where it
+    /// has neither a name nor a register of its own; a name the last operand that bears it.
+    ///
+    /// # Errors
+    ///
+    /// `ArenaFull` comes only where the store does not hold as many more expressions as the call places at most: of k pieces
+    /// these are 2k + 1. `Memory` may come from every call.
+    pub fn lower_inline_asm<M: Macros>(
+        &mut self,
+        alloc: Global,
+        asm: &AsmCall,
+        opts: &CfgOptions,
+        macros: &M,
+    ) -> Result<ExprId, LowerError>
+        ensures code { IfOk result (λ made. IsAsmCode opts.now (reaches (around (M.resolved macros.now) (M.expanded macros.now) self.old)) self.old.file asm.now self.new.store made) }
+        ensures later { IfOk result (λ made. length self.old.store.exprs ≤ place_of made) }
+        ensures fresh { self.new.fresh ≡ self.old.fresh }
+        ensures stays { Stays self.old self.new }
+        ensures older { Grows self.old.store self.new.store }
+        ensures count { length self.new.store.exprs ≤ length self.old.store.exprs + most_of asm.now }
+        ensures patterns { length self.new.store.pats ≤ length self.old.store.pats }
+        ensures bindings { length self.new.store.bindings ≤ length self.old.store.bindings }
+        ensures full { result ≡ Err LowerError.ArenaFull → Outgrows self.old.store (most_of asm.now) 0 }
+    {
+        let Lowering { builder, expander } = &mut self.inside;
+        lower_asm_call(builder, expander, alloc, asm, opts, macros)
+    }
+
     /// Lowers calls under options, one after the other, and returns one outcome for each, in order.
     ///
     /// A call is off exactly where one of its predicates, each taken by itself, evaluates to `Some(false)`; it then
@@ -182,7 +215,8 @@ impl ExprCollector {
     /// formed where its template reaches a literal whose value is a format string, every reference of the text refers
     /// to an argument, every written argument has an expression and is referred to, and both language items are there.
     /// Where a text with a placeholder does not refer to an argument, the code evaluates it once more, behind all; a call
-    /// without a text evaluates its arguments and writes nothing.
+    /// without a text evaluates its arguments and writes nothing. For the code of inline assembly see
+    /// [`ExprCollector::lower_inline_asm`].
     ///
     /// For an example see [`ExprCollector`].
     ///

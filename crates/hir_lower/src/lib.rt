@@ -2,6 +2,7 @@
 //! What a call means is said of finished code: its evaluation, and the writes that its value stands for. See [`ExprCollector`].
 #![tactic(auto)]
 
+mod asm;
 mod call;
 mod captures;
 mod collector;

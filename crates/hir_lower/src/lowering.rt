@@ -5,8 +5,9 @@ ghost use Rattle.hir_store.specs.Unfolding.{place_of};
 ghost use Rattle.hir_build.specs.Building.{Builds, Outgrows};
 ghost use Rattle.hir_lower.specs.Collector.{IsAtRest, around, collector_of};
 ghost use Rattle.hir_lower.specs.CallParsed.{GrowsSome};
-ghost use Rattle.hir_lower.specs.Lowered.{IsMostOf, PlacesCall, LowersCall, Lowers, IsMostGated, AreMost, lets_of, most_lets};
+ghost use Rattle.hir_lower.specs.Lowered.{IsMostOf, PlacesCall, LowersCall, Lowers, IsMostGated, AreMost, lets_in, lets_of, most_lets};
 
+use crate::asm::lower_asm_call;
 use crate::call::lower_format_call;
 use crate::{Call, GatedCall, LowerError, Outcome};
 use hir_build::Builder;
@@ -28,18 +29,29 @@ impl Lowering {
         &mut self,
         alloc: Global,
         call: &Call,
+        opts: &CfgOptions,
         macros: &M,
     ) -> Result<ExprId, LowerError>
         requires rest { IsAtRest self.old.builder self.old.expander }
-        ensures placed { IfOk result (λ made. PlacesCall (around (M.resolved macros.now) (M.expanded macros.now) (collector_of self.old.builder self.old.expander)) self.old.builder call.now made self.new.builder) }
-        ensures within { (most : ℕ) → IsMostOf (around (M.resolved macros.now) (M.expanded macros.now) (collector_of self.old.builder self.old.expander)) call.now most → Builds self.old.builder self.new.builder most 2 }
-        ensures full { result ≡ Err LowerError.ArenaFull → (most : ℕ) → IsMostOf (around (M.resolved macros.now) (M.expanded macros.now) (collector_of self.old.builder self.old.expander)) call.now most → Outgrows self.old.builder.store most 2 }
-        ensures builds { GrowsSome self.old.builder self.new.builder 2 }
+        ensures placed { IfOk result (λ made. PlacesCall opts.now (around (M.resolved macros.now) (M.expanded macros.now) (collector_of self.old.builder self.old.expander)) self.old.builder call.now made self.new.builder) }
+        ensures within { (most : ℕ) → IsMostOf (around (M.resolved macros.now) (M.expanded macros.now) (collector_of self.old.builder self.old.expander)) call.now most → Builds self.old.builder self.new.builder most (lets_in call.now) }
+        ensures full { result ≡ Err LowerError.ArenaFull → (most : ℕ) → IsMostOf (around (M.resolved macros.now) (M.expanded macros.now) (collector_of self.old.builder self.old.expander)) call.now most → Outgrows self.old.builder.store most (lets_in call.now) }
+        ensures builds { GrowsSome self.old.builder self.new.builder (lets_in call.now) }
         ensures unchanged { self.new.expander ≡ self.old.expander }
     {
         match call {
             Call::Format(format) => {
                 lower_format_call(&mut self.builder, &mut self.expander, alloc, format, macros)
+            }
+            Call::Asm(asm) => {
+                lower_asm_call(
+                    &mut self.builder,
+                    &mut self.expander,
+                    alloc,
+                    asm,
+                    opts,
+                    macros,
+                )
             }
         }
     }
@@ -64,7 +76,7 @@ impl Lowering {
             let outcome = Outcome::off(alloc, call.cfgs.as_slice(), opts)?;
             return Ok(outcome);
         }
-        let code = self.lower_call(alloc, &call.call, macros)?;
+        let code = self.lower_call(alloc, &call.call, opts, macros)?;
         Ok(Outcome::Code(code))
     }
 

@@ -8,11 +8,13 @@ use Rattle.hir_store.specs.declared.expr.Literal.{Literal}
 use Rattle.hir_store.specs.declared.expr.Literal.TheVariants as literal
 use Rattle.hir_store.specs.declared.expr.Statement.{Statement}
 use Rattle.hir_store.specs.declared.expr.Statement.TheVariants as statement
+use Rattle.sym_core.specs.declared.name.Name.{Name}
+use Rattle.hir_store.specs.declared.asm.AsmOperand.{AsmOperand}
 use Rattle.hir_store.specs.declared.store.ExpressionStore.{ExpressionStore}
-use Rattle.hir_store.specs.Tree.{Tree, Trees, Steps, is_whole, all_whole, steps_whole, Ref, Tuple, Field, Array, Call, Block, End, Tail, Let, Do}
-use Rattle.hir_store.specs.Unfolding.{name_in, let_step, steps_of, literal_tree, tree_at, tree_over}
+use Rattle.hir_store.specs.Tree.{Tree, Trees, Steps, is_whole, all_whole, steps_whole, Ref, Tuple, Field, Array, Call, Block, InlineAsm, End, Tail, Let, Do, Operands, NoOperand, Operand, operands_whole}
+use Rattle.hir_store.specs.Unfolding.{name_in, let_step, steps_of, literal_tree, trees_of, operand_exprs, shape_of, operands_of, tree_at, tree_over}
 use Rattle.hir_store.specs.Store.{Stands, AllStand, PlacesExpr}
-use Rattle.hir_store.specs.Makes.{TailMakes, StepsMake, Makes}
+use Rattle.hir_store.specs.Makes.{TailMakes, StepsMake, OperandsMake, Makes}
 use Rattle.hir_store.proofs.Grown.{trees_of_all, whole_of_all}
 use Rattle.hir_store.proofs.Placing.{stands_placed}
 
@@ -28,6 +30,10 @@ literal_whole (literal.ByteString bytes) = refl
 record StepsAre (store : ExpressionStore) (statements : List Statement) (last : Option ExprId) (steps : Steps) : Type 0 where
   pub are : steps_of (name_in store) (tree_at store) statements last ≡ steps
   pub whole : IsTrue (steps_whole steps)
+
+record OperandsAre (store : ExpressionStore) (operands : List (Option Name × AsmOperand)) (made : Operands) : Type 0 where
+  pub are : operands_of (tree_at store) operands ≡ made
+  pub whole : IsTrue (operands_whole made)
 
 is_over : (store : ExpressionStore) (e : Expr) (t u : Tree) → tree_over store e ≡ u → IsTrue (is_whole u) → t ≡ u → IsOver store e t
 is_over store e t u over whole is = record { tree = over ∙ sym is; whole = subst (λ v. IsTrue (is_whole v)) (sym is) whole }
@@ -56,6 +62,17 @@ module _ (store : ExpressionStore) where
   steps_made (statement.Let pat id ∷ rest) last steps made = absurd made
   steps_made (statement.Expr id ∷ rest) last steps made = absurd made
 
+  operands_made : (operands : List (Option Name × AsmOperand)) (made : Operands) → OperandsMake store operands made → OperandsAre store operands made
+  operands_made [] NoOperand made = record { are = refl; whole = refl }
+  operands_made ((name, operand) ∷ rest) (Operand other shape ts operands) made =
+      let behind = operands_made rest operands made.3 in
+      record {
+        are = ap (λ n. Operand n (shape_of operand) (trees_of (tree_at store) (operand_exprs operand)) (operands_of (tree_at store) rest)) (sym made.0) ∙ ap (λ s. Operand other s (trees_of (tree_at store) (operand_exprs operand)) (operands_of (tree_at store) rest)) (sym made.1) ∙ ap₂ (Operand other shape) (trees_of_all store (operand_exprs operand) ts made.2) behind.are;
+        whole = and_from (all_whole ts) (operands_whole operands) (whole_of_all store (operand_exprs operand) ts made.2) behind.whole;
+      }
+  operands_made [] operands made = absurd made
+  operands_made (one ∷ rest) NoOperand made = absurd made
+
   pub made : (e : Expr) (t : Tree) → Makes store e t → IsOver store e t
   made expr.Missing t is = is_over store expr.Missing t (tree_over store expr.Missing) refl refl is
   made (expr.Leaf n) t is = is_over store (expr.Leaf n) t (tree_over store (expr.Leaf n)) refl refl is
@@ -73,12 +90,19 @@ module _ (store : ExpressionStore) where
   made (expr.Block last is_unsafe statements) (Block b steps) is =
       let parts = steps_made statements last steps is.1 in
       record { tree = ap₂ Block (sym is.0) parts.are; whole = parts.whole }
+  made (expr.InlineAsm assembly) (InlineAsm kind options operands) is =
+      let parts = operands_made assembly.operands operands is.2 in
+      record {
+        tree = ap (λ k. InlineAsm k assembly.options (operands_of (tree_at store) assembly.operands)) (sym is.0) ∙ ap₂ (InlineAsm kind) (sym is.1) parts.are;
+        whole = parts.whole;
+      }
   made (expr.Ref id) t is = absurd is
   made (expr.Tuple ids) t is = absurd is
   made (expr.Field id name) t is = absurd is
   made (expr.Array ids) t is = absurd is
   made (expr.Call callee args) t is = absurd is
   made (expr.Block last is_unsafe statements) t is = absurd is
+  made (expr.InlineAsm assembly) t is = absurd is
 
 -- a placed expression stands for the tree that it makes
 pub stands_made : (old new : ExpressionStore) (e : Expr) (id : ExprId) (t : Tree) → PlacesExpr old e id new → Makes old e t → Stands new id t

@@ -8,7 +8,7 @@ use Rattle.sym_core.specs.declared.files.AstPtr.{AstPtr}
 use Rattle.hir_store.specs.declared.ids.ExprId.{ExprId}
 use Rattle.hir_store.specs.declared.store.ExpressionStore.{ExpressionStore}
 use Rattle.hir_store.specs.Unfolding.{place_of}
-use Rattle.hir_store.specs.Sources.{captures_at, HoldsBelow, SameBelow, NoDanglingKeys, SameAtOlder, SameMaps, EntersSource}
+use Rattle.hir_store.specs.Sources.{entry_at, HoldsBelow, SameBelow, NoDanglingKeys, SameAtOlder, SameMaps, EntersSource}
 
 module _ {A M : Type 0} (at : M → ℕ → Option A) (limit : ℕ) (old new : M) (same : new ≡ old) where
   -- a map that stays as it was
@@ -40,14 +40,16 @@ module _ (old new : ExpressionStore) where
   same_at_older maps = record {
     sources = same_below slot_at (length old.exprs) old.expr_map_back new.expr_map_back maps.sources;
     capture_sources = same_below slot_at (length old.exprs) old.implicit_capture_to_source new.implicit_capture_to_source maps.capture_sources;
-    captures = same_below captures_at (length old.exprs) old.format_args_to_captures new.format_args_to_captures maps.captures;
+    captures = same_below entry_at (length old.exprs) old.format_args_to_captures new.format_args_to_captures maps.captures;
+    mappings = same_below entry_at (length old.exprs) old.asm_to_captures new.asm_to_captures maps.mappings;
   }
 
   pub maps_still : SameMaps old new → length old.exprs ≤ length new.exprs → NoDanglingKeys old → NoDanglingKeys new
   maps_still maps le held = record {
     sources = holds_later slot_at (length old.exprs) old.expr_map_back new.expr_map_back maps.sources (length new.exprs) le held.sources;
     capture_sources = holds_later slot_at (length old.exprs) old.implicit_capture_to_source new.implicit_capture_to_source maps.capture_sources (length new.exprs) le held.capture_sources;
-    captures = holds_later captures_at (length old.exprs) old.format_args_to_captures new.format_args_to_captures maps.captures (length new.exprs) le held.captures;
+    captures = holds_later entry_at (length old.exprs) old.format_args_to_captures new.format_args_to_captures maps.captures (length new.exprs) le held.captures;
+    mappings = holds_later entry_at (length old.exprs) old.asm_to_captures new.asm_to_captures maps.mappings (length new.exprs) le held.mappings;
   }
 
   module _ (id : ExprId) (ptr : InFile AstPtr) (enters : EntersSource old id ptr new) where
@@ -56,22 +58,25 @@ module _ (old new : ExpressionStore) where
     older_with_source at = record {
       sources = same_below_write (length old.exprs) old.expr_map_back new.expr_map_back (place_of id) (Some ptr) at enters.sources;
       capture_sources = same_below slot_at (length old.exprs) old.implicit_capture_to_source new.implicit_capture_to_source enters.capture_sources;
-      captures = same_below captures_at (length old.exprs) old.format_args_to_captures new.format_args_to_captures enters.captures;
+      captures = same_below entry_at (length old.exprs) old.format_args_to_captures new.format_args_to_captures enters.captures;
+      mappings = same_below entry_at (length old.exprs) old.asm_to_captures new.asm_to_captures enters.mappings;
     }
 
     pub maps_with_source : length old.exprs ≤ length new.exprs → place_of id < length new.exprs → NoDanglingKeys old → NoDanglingKeys new
     maps_with_source le lt held = record {
       sources = holds_write (length old.exprs) (length new.exprs) old.expr_map_back new.expr_map_back (place_of id) (Some ptr) le lt enters.sources held.sources;
       capture_sources = holds_later slot_at (length old.exprs) old.implicit_capture_to_source new.implicit_capture_to_source enters.capture_sources (length new.exprs) le held.capture_sources;
-      captures = holds_later captures_at (length old.exprs) old.format_args_to_captures new.format_args_to_captures enters.captures (length new.exprs) le held.captures;
+      captures = holds_later entry_at (length old.exprs) old.format_args_to_captures new.format_args_to_captures enters.captures (length new.exprs) le held.captures;
+      mappings = holds_later entry_at (length old.exprs) old.asm_to_captures new.asm_to_captures enters.mappings (length new.exprs) le held.mappings;
     }
 
 pub older_self : (store : ExpressionStore) → SameAtOlder store store
-older_self store = same_at_older store store (record { sources = refl; capture_sources = refl; captures = refl })
+older_self store = same_at_older store store (record { sources = refl; capture_sources = refl; captures = refl; mappings = refl })
 
 pub older_on : (a b c : ExpressionStore) → length a.exprs ≤ length b.exprs → SameAtOlder a b → SameAtOlder b c → SameAtOlder a c
 older_on a b c le first second = record {
   sources = same_below_on (length a.exprs) (length b.exprs) (slot_at a.expr_map_back) (slot_at b.expr_map_back) (slot_at c.expr_map_back) le first.sources second.sources;
   capture_sources = same_below_on (length a.exprs) (length b.exprs) (slot_at a.implicit_capture_to_source) (slot_at b.implicit_capture_to_source) (slot_at c.implicit_capture_to_source) le first.capture_sources second.capture_sources;
-  captures = same_below_on (length a.exprs) (length b.exprs) (captures_at a.format_args_to_captures) (captures_at b.format_args_to_captures) (captures_at c.format_args_to_captures) le first.captures second.captures;
+  captures = same_below_on (length a.exprs) (length b.exprs) (entry_at a.format_args_to_captures) (entry_at b.format_args_to_captures) (entry_at c.format_args_to_captures) le first.captures second.captures;
+  mappings = same_below_on (length a.exprs) (length b.exprs) (entry_at a.asm_to_captures) (entry_at b.asm_to_captures) (entry_at c.asm_to_captures) le first.mappings second.mappings;
 }

@@ -8,9 +8,10 @@ use Rattle.hir_store.specs.declared.expr.Expr.{Expr}
 use Rattle.hir_store.specs.declared.expr.Expr.TheVariants as expr
 use Rattle.hir_store.specs.declared.expr.Statement.{Statement}
 use Rattle.hir_store.specs.declared.expr.Statement.TheVariants as statement
-use Rattle.hir_store.specs.Tree.{Tree, Steps, is_whole, all_whole, steps_whole, Ref, Tuple, Field, Array, Call, Block, More, Tail, Let, Do}
-use Rattle.hir_store.specs.Unfolding.{place_of, node, trees_of, let_step, steps_of}
-use Rattle.hir_store.specs.PartsBelow.{AllBelow, StepsBelow, PartsBelow}
+use Rattle.hir_store.specs.declared.asm.AsmOperand.{AsmOperand}
+use Rattle.hir_store.specs.Tree.{Tree, Steps, is_whole, all_whole, steps_whole, Ref, Tuple, Field, Array, Call, Block, InlineAsm, More, Tail, Let, Do, Operand, operands_whole}
+use Rattle.hir_store.specs.Unfolding.{place_of, node, trees_of, let_step, steps_of, operand_exprs, shape_of, operands_of}
+use Rattle.hir_store.specs.PartsBelow.{AllBelow, StepsBelow, OperandsBelow, PartsBelow}
 
 -- a name that a pattern had is the name that it has
 abbrev pub KeepsNames : (PatId → Option Name) → (PatId → Option Name) → Type 0
@@ -54,6 +55,12 @@ module _ (names later : PatId → Option Name) (names_kept : KeepsNames names la
       let both = and_parts (is_whole (old id)) (steps_whole (steps_of names old rest last)) whole in
       ap₂ Do (trees_kept id both.0) (same_steps rest last both.1)
 
+  same_operands : (operands : List (Option Name × AsmOperand)) → IsTrue (operands_whole (operands_of old operands)) → operands_of new operands ≡ operands_of old operands
+  same_operands [] whole = refl
+  same_operands ((name, operand) ∷ rest) whole =
+      let both = and_parts (all_whole (trees_of old (operand_exprs operand))) (operands_whole (operands_of old rest)) whole in
+      ap₂ (Operand name (shape_of operand)) (same_trees (operand_exprs operand) both.0) (same_operands rest both.1)
+
   pub same_node : (e : Expr) → IsTrue (is_whole (node names old e)) → node later new e ≡ node names old e
   same_node expr.Missing whole = refl
   same_node (expr.Leaf n) whole = refl
@@ -68,6 +75,7 @@ module _ (names later : PatId → Option Name) (names_kept : KeepsNames names la
       let both = and_parts (is_whole (old callee)) (all_whole (trees_of old args)) whole in
       ap₂ Call (trees_kept callee both.0) (same_trees args both.1)
   same_node (expr.Block last is_unsafe statements) whole = ap (Block is_unsafe) (same_steps statements last whole)
+  same_node (expr.InlineAsm assembly) whole = ap (InlineAsm assembly.kind assembly.options) (same_operands assembly.operands whole)
 
 module _ (limit : ℕ) (names : PatId → Option Name) (tree_of : ExprId → Tree) (below : WholeBelow limit tree_of) where
   all_below : (ids : List ExprId) → IsTrue (all_whole (trees_of tree_of ids)) → AllBelow limit ids
@@ -86,6 +94,12 @@ module _ (limit : ℕ) (names : PatId → Option Name) (tree_of : ExprId → Tre
       let both = and_parts (is_whole (tree_of id)) (steps_whole (steps_of names tree_of rest last)) whole in
       (below id both.0, steps_below rest last both.1)
 
+  operands_below : (operands : List (Option Name × AsmOperand)) → IsTrue (operands_whole (operands_of tree_of operands)) → OperandsBelow limit operands
+  operands_below [] whole = tt
+  operands_below ((name, operand) ∷ rest) whole =
+      let both = and_parts (all_whole (trees_of tree_of (operand_exprs operand))) (operands_whole (operands_of tree_of rest)) whole in
+      (all_below (operand_exprs operand) both.0, operands_below rest both.1)
+
   -- a whole node names parts below the limit only
   pub node_below : (e : Expr) → IsTrue (is_whole (node names tree_of e)) → PartsBelow limit e
   node_below expr.Missing whole = tt
@@ -101,3 +115,4 @@ module _ (limit : ℕ) (names : PatId → Option Name) (tree_of : ExprId → Tre
       let both = and_parts (is_whole (tree_of callee)) (all_whole (trees_of tree_of args)) whole in
       (below callee both.0, all_below args both.1)
   node_below (expr.Block last is_unsafe statements) whole = steps_below statements last whole
+  node_below (expr.InlineAsm assembly) whole = operands_below assembly.operands whole

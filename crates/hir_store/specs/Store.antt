@@ -88,6 +88,7 @@ pub record IsEmptyStore (store : ExpressionStore) : Type 0 where
   pub sources : store.expr_map_back ≡ []
   pub capture_sources : store.implicit_capture_to_source ≡ []
   pub captures : store.format_args_to_captures ≡ []
+  pub mappings : store.asm_to_captures ≡ []
 
 -- a store without dangling ids: whatever it names is in it: each index stands for a whole tree, whose parts all come before what they are parts of, and patterns, bindings and maps name what is there
 pub record NoDanglingIds (store : ExpressionStore) : Type 0 where

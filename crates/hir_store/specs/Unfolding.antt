@@ -11,11 +11,13 @@ use Rattle.hir_store.specs.declared.expr.Literal.{Literal}
 use Rattle.hir_store.specs.declared.expr.Literal.TheVariants as literal
 use Rattle.hir_store.specs.declared.expr.Statement.{Statement}
 use Rattle.hir_store.specs.declared.expr.Statement.TheVariants as statement
+use Rattle.hir_store.specs.declared.asm.AsmOperand.{AsmOperand}
+use Rattle.hir_store.specs.declared.asm.AsmOperand.TheVariants as asm
 use Rattle.hir_store.specs.declared.pat.Pat.{Pat}
 use Rattle.hir_store.specs.declared.pat.Pat.TheVariants.{Bind}
 use Rattle.hir_store.specs.declared.pat.Binding.{Binding}
 use Rattle.hir_store.specs.declared.store.ExpressionStore.{ExpressionStore}
-use Rattle.hir_store.specs.Tree.{Tree, Trees, Steps, Bad, Missing, Leaf, Path, LangPath, Text, Bytes, Ref, Tuple, Field, Array, Call, Block, Empty, More, End, Tail, Let, Nameless, Do}
+use Rattle.hir_store.specs.Tree.{Tree, Trees, Steps, Bad, Missing, Leaf, Path, LangPath, Text, Bytes, Ref, Tuple, Field, Array, Call, Block, InlineAsm, Empty, More, End, Tail, Let, Nameless, Do, Shape, In, Out, InOut, SplitInOut, Label, Const, Sym, Operands, NoOperand, Operand}
 
 -- the place of an expression
 abbrev pub place_of : ExprId → ℕ
@@ -60,6 +62,36 @@ abbrev pub literal_tree : Literal → Tree
 literal_tree (literal.String text) = Text text
 literal_tree (literal.ByteString bytes) = Bytes bytes
 
+-- an expression in a row, where there is one
+abbrev pub row_of : Option ExprId → List ExprId
+row_of None = []
+row_of (Some id) = id ∷ []
+
+-- the expressions of an operand, in their order
+abbrev pub operand_exprs : AsmOperand → List ExprId
+operand_exprs (asm.In reg id) = id ∷ []
+operand_exprs (asm.Out reg id late) = row_of id
+operand_exprs (asm.InOut reg id late) = id ∷ []
+operand_exprs (asm.SplitInOut reg in_id out_id late) = in_id ∷ row_of out_id
+operand_exprs (asm.Label id) = id ∷ []
+operand_exprs (asm.Const id) = id ∷ []
+operand_exprs (asm.Sym name) = []
+
+-- what an operand is, its expressions aside
+abbrev pub shape_of : AsmOperand → Shape
+shape_of (asm.In reg id) = In reg
+shape_of (asm.Out reg id late) = Out reg late
+shape_of (asm.InOut reg id late) = InOut reg late
+shape_of (asm.SplitInOut reg in_id out_id late) = SplitInOut reg late
+shape_of (asm.Label id) = Label
+shape_of (asm.Const id) = Const
+shape_of (asm.Sym name) = Sym name
+
+-- the operands of inline assembly, given the trees of its parts
+abbrev pub operands_of : (ExprId → Tree) → List (Option Name × AsmOperand) → Operands
+operands_of tree_of [] = NoOperand
+operands_of tree_of ((name, operand) ∷ operands) = Operand name (shape_of operand) (trees_of tree_of (operand_exprs operand)) (operands_of tree_of operands)
+
 -- the tree of an expression, given what its patterns bind and the trees of its parts
 abbrev pub node : (PatId → Option Name) → (ExprId → Tree) → Expr → Tree
 node names tree_of expr.Missing = Missing
@@ -73,6 +105,7 @@ node names tree_of (expr.Field id name) = Field (tree_of id) name
 node names tree_of (expr.Array ids) = Array (trees_of tree_of ids)
 node names tree_of (expr.Call callee args) = Call (tree_of callee) (trees_of tree_of args)
 node names tree_of (expr.Block last is_unsafe statements) = Block is_unsafe (steps_of names tree_of statements last)
+node names tree_of (expr.InlineAsm assembly) = InlineAsm assembly.kind assembly.options (operands_of tree_of assembly.operands)
 
 -- the tree of an index in a list of expressions, the newest first
 abbrev pub tree_in : (PatId → Option Name) → List Expr → ExprId → Tree

@@ -1,4 +1,4 @@
-use crate::{ExprId, ExprIds, LangFn, LangItem, PatId};
+use crate::{ExprId, ExprIds, InlineAsm, LangFn, LangItem, PatId};
 use sqlite_items::{Boxed, Items};
 use std::mem::size_of;
 use sym_core::{Name, Symbol};
@@ -48,6 +48,8 @@ pub enum Expr {
         /// The statements, in their order.
         statements: Boxed<Items<Statement>>,
     },
+    /// Inline assembly, `asm!(..)`.
+    InlineAsm(InlineAsm),
 }
 
 const _: () = prove!(size_of::<Expr>() == 24);

@@ -1,8 +1,11 @@
-//! The expressions, patterns and bindings of a lowered body, in the arenas that hold them.
+//! The expressions, patterns and bindings of a lowered body, in the arenas that hold them, with where they stand in the
+//! source and what is known of its calls.
 //! An index of the store unfolds to a tree, in which every part stands before the whole.
 #![tactic(auto)]
 
-mod capture_map;
+mod asm;
+mod asm_options;
+mod code_map;
 mod expr;
 mod expr_ids;
 mod ids;
@@ -12,7 +15,9 @@ mod row;
 mod source;
 mod store;
 
-pub use capture_map::CaptureMap;
+pub use asm::{AsmOperand, AsmRow, InlineAsm, InlineAsmKind, InlineAsmRegOrRegClass};
+pub use asm_options::AsmOptions;
+pub use code_map::CodeMap;
 pub use expr::{Expr, Literal, Statement};
 pub use expr_ids::ExprIds;
 pub use ids::{BindingId, ExprId, PatId};

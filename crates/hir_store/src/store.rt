@@ -1,9 +1,10 @@
 ghost use Rattle.std.specs.Prelude.{◌≡◌, ◌↔◌, ◌<◌, ◌⊎◌, [], Some, None, length, IsTrue, IfOk, OnErr};
 
-use crate::{Binding, BindingId, CaptureMap, CaptureSource, Expr, ExprId, Pat, PatId};
+use crate::{AsmRow, Binding, BindingId, CaptureSource, CodeMap, Expr, ExprId, Pat, PatId};
 use la_arena::{Arena, ArenaError, ArenaMap, Idx};
+use sqlite_items::Items;
 use std::alloc::{AllocError, Global};
-use sym_core::{AstPtr, InFile, Name};
+use sym_core::{AstPtr, InFile, Name, TextRange};
 
 /// The expressions, patterns and bindings of a body, and where they come from in the source.
 ///
@@ -31,7 +32,9 @@ pub struct ExpressionStore {
     /// For each expression that a format call captures, where the call names it.
     pub implicit_capture_to_source: ArenaMap<Idx<Expr>, InFile<CaptureSource>>,
     /// For each format call, the ranges of its literal that name a captured variable, with the names.
-    pub format_args_to_captures: CaptureMap,
+    pub format_args_to_captures: CodeMap<Items<(TextRange, Name)>>,
+    /// For each call of inline assembly, which operands its templates put, template by template.
+    pub asm_to_captures: CodeMap<Items<AsmRow>>,
 }
 
 impl ExpressionStore {
@@ -53,7 +56,8 @@ impl ExpressionStore {
             bindings: Arena::new(alloc),
             expr_map_back: ArenaMap::new(alloc),
             implicit_capture_to_source: ArenaMap::new(alloc),
-            format_args_to_captures: CaptureMap::new(alloc),
+            format_args_to_captures: CodeMap::new(alloc),
+            asm_to_captures: CodeMap::new(alloc),
         }
     }
 

@@ -4,9 +4,9 @@ use Rattle.hir_store.specs.declared.expr.Statement.{Statement}
 use Rattle.hir_store.specs.declared.expr.Statement.TheVariants as statement
 use Rattle.hir_store.specs.declared.store.ExpressionStore.{ExpressionStore}
 use Rattle.hir_store.specs.Unfolding.{tree_at}
-use Rattle.hir_store.specs.Tree.{Tree, Trees, Steps, Bad, Missing, Leaf, Path, LangPath, Text, Bytes, Ref, Tuple, Field, Array, Call, Block, Empty, More, End, Tail, Let, Nameless, Do}
+use Rattle.hir_store.specs.Tree.{Tree, Trees, Steps, Bad, Missing, Leaf, Path, LangPath, Text, Bytes, Ref, Tuple, Field, Array, Call, Block, Empty, More, End, Tail, Let, Nameless, Do, InlineAsm, Operands, NoOperand, Operand}
 
--- how many expressions and statements a tree has
+-- how many expressions, statements and operands a tree has
 abbrev mutual
   pub tree_size : Tree → ℕ
   tree_size Bad = 1
@@ -22,6 +22,7 @@ abbrev mutual
   tree_size (Array ts) = trees_size ts + 1
   tree_size (Call callee ts) = tree_size callee + trees_size ts + 1
   tree_size (Block is_unsafe steps) = steps_size steps + 1
+  tree_size (InlineAsm kind options operands) = operands_size operands + 1
 
   pub trees_size : Trees → ℕ
   trees_size Empty = 0
@@ -33,6 +34,10 @@ abbrev mutual
   steps_size (Let name t steps) = tree_size t + steps_size steps + 1
   steps_size (Nameless t steps) = tree_size t + steps_size steps + 1
   steps_size (Do t steps) = tree_size t + steps_size steps + 1
+
+  pub operands_size : Operands → ℕ
+  operands_size NoOperand = 0
+  operands_size (Operand name shape ts operands) = trees_size ts + operands_size operands + 1
 
 -- how large the tree of a statement is
 abbrev pub statement_size : ExpressionStore → Statement → ℕ

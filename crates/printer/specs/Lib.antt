@@ -1,2 +1,4 @@
+pub mod Assembly
+pub mod Mapping
 pub mod Printed
 pub mod Statements

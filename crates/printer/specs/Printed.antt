@@ -11,9 +11,11 @@ use Rattle.hir_store.specs.declared.lang_item.LangFn.{LangFn}
 use Rattle.hir_store.specs.declared.lang_item.LangFn.TheVariants.{New, FromStr, NewDisplay, NewDebug, NewLowerExp, NewUpperExp, NewOctal, NewPointer, NewBinary, NewLowerHex, NewUpperHex, FromUsize}
 use Rattle.hir_store.specs.declared.ids.ExprId.{ExprId}
 use Rattle.hir_store.specs.declared.store.ExpressionStore.{ExpressionStore}
-use Rattle.hir_store.specs.Tree.{Tree, Trees, Steps, Bad, Missing, Leaf, Path, LangPath, Text, Bytes, Ref, Tuple, Field, Array, Call, Block, Empty, More, End, Tail, Let, Nameless, Do}
+use Rattle.hir_store.specs.Tree.{Tree, Trees, Steps, Bad, Missing, Leaf, Path, LangPath, Text, Bytes, Ref, Tuple, Field, Array, Call, Block, Empty, More, End, Tail, Let, Nameless, Do, InlineAsm, Operands, NoOperand, Operand}
 use Rattle.hir_store.specs.Unfolding.{place_of, tree_at}
-use Rattle.hir_store.specs.Sources.{captures_at}
+use Rattle.hir_store.specs.Sources.{entry_at}
+use Rattle.printer.specs.Assembly.{assembly_text, operand_text}
+use Rattle.printer.specs.Mapping.{map_lines}
 use Rattle.ra_cfg.specs.declared.cfg_expr.CfgExpr.{CfgExpr}
 use Rattle.ra_cfg.specs.Options.{OptionSet}
 use Rattle.ra_cfg.specs.Diff.{Diff}
@@ -87,6 +89,7 @@ abbrev mutual
   text_of (Array ts) = codes "[" ++ texts_of ts ++ codes "]"
   text_of (Call callee ts) = text_of callee ++ codes "(" ++ texts_of ts ++ codes ")"
   text_of (Block is_unsafe steps) = block_word is_unsafe ++ steps_text steps ++ codes "}"
+  text_of (InlineAsm kind options operands) = assembly_text kind (operand_texts operands) options.0
 
   -- expressions with `, ` between
   pub texts_of : Trees → List ℕ
@@ -106,6 +109,16 @@ abbrev mutual
   steps_text (Nameless t steps) = let_text [] (text_of t) ++ steps_text steps
   steps_text (Do t steps) = text_of t ++ codes "; " ++ steps_text steps
 
+  -- expressions, each by its text
+  pub each_text : Trees → List (List ℕ)
+  each_text Empty = []
+  each_text (More t ts) = text_of t ∷ each_text ts
+
+  -- operands, each by its text
+  pub operand_texts : Operands → List (List ℕ)
+  operand_texts NoOperand = []
+  operand_texts (Operand name shape ts operands) = operand_text name shape (each_text ts) ∷ operand_texts operands
+
 -- the line of a usage in the literal of the call with this number: the name and its span; LF
 abbrev pub use_line : ℕ → TextRange × Name → List ℕ
 use_line number (range, name) = decimal number ++ codes " use " ++ name_text name ++ codes " " ++ decimal range.start ++ codes ".." ++ decimal range.end ++ codes "\n"
@@ -119,9 +132,9 @@ abbrev pub use_lines : ℕ → Option (List (TextRange × Name)) → List ℕ
 use_lines number (Some usages) = use_lines_of number usages
 use_lines number None = []
 
--- the line of the code of the call with this number, and a line for each usage that the store has at the code
+-- the line of the code of the call with this number, a line for each usage that the store has at the code, and one for each place of a mapping there
 abbrev pub code_lines : ExpressionStore → ℕ → ExprId → List ℕ
-code_lines store number id = decimal number ++ codes " code " ++ text_of (tree_at store id) ++ codes "\n" ++ use_lines number (captures_at store.format_args_to_captures (place_of id))
+code_lines store number id = decimal number ++ codes " code " ++ text_of (tree_at store id) ++ codes "\n" ++ use_lines number (entry_at store.format_args_to_captures (place_of id)) ++ map_lines number (entry_at store.asm_to_captures (place_of id))
 
 -- a space and the text of a reason; nothing where it has no atom
 abbrev pub reason_words : Reason → List ℕ

@@ -4,6 +4,7 @@ ghost use Rattle.hir_store.specs.Unfolding.{tree_at, tree_over, trees_of, steps_
 ghost use Rattle.printer.specs.Printed.{text_of, texts_of, later_texts, steps_text, let_text, bound_text};
 ghost use Rattle.printer.specs.Statements.{statement_text, StatementIsWhole};
 
+use crate::asm::push_assembly;
 use crate::words::{function_word, item_word, push_literal};
 use hir_store::{Expr, ExprId, ExpressionStore, Pat, PatId, Statement};
 use std::alloc::AllocError;
@@ -58,6 +59,7 @@ fn push_node(out: &mut String, store: &ExpressionStore, expr: &Expr) -> Result<(
             tail,
             is_unsafe,
         } => push_block(out, store, statements.get().as_slice(), *tail, *is_unsafe),
+        Expr::InlineAsm(assembly) => push_assembly(out, store, assembly),
     }
 }
 

@@ -1,13 +1,16 @@
 ghost use Rattle.std.specs.Prelude.{◌≡◌, ◌++◌, Some, codes, IsTrue, IfOk, OnOk, string_bytes};
 ghost use Rattle.hir_store.specs.Tree.{is_whole};
-ghost use Rattle.hir_store.specs.Unfolding.{tree_at};
+ghost use Rattle.hir_store.specs.Unfolding.{place_of, tree_at};
 ghost use Rattle.hir_store.specs.Store.{NoDanglingIds};
 ghost use Rattle.hir_lower.specs.Lowered.{AreInStore};
-ghost use Rattle.printer.specs.Printed.{reason_line, hint_line, hint_lines, use_line, use_lines_of, code_lines, printed};
+ghost use Rattle.printer.specs.Printed.{reason_line, hint_line, hint_lines, use_line, use_lines_of, use_lines, code_lines, printed};
+ghost use Rattle.printer.specs.Mapping.{map_lines};
+ghost use Rattle.hir_store.specs.Sources.{entry_at};
 ghost use Rattle.std.specs.Option.{option_copied};
 ghost use Rattle.std.specs.Fmt.{decimal};
 
 use crate::expr::push_expr;
+use crate::mapping::push_map_lines;
 use cfg_dnf::{DnfExpr, InactiveReason};
 use hir_lower::Outcome;
 use hir_store::{ExprId, ExpressionStore};
@@ -19,8 +22,9 @@ use sym_core::{Name, TextRange};
 /// Prints a line for each outcome, in order: the number of its call, from 0 on, and what became of the call.
 ///
 /// Code is printed as the expression that stands at its place in the store. Behind its line there is one for each usage
-/// that the store has there: a name that the literal of the call spells, and its bytes in the literal. Behind the line of a
-/// call that is off there is one that says why, where that can be told, and one for each hint under the options; hints are made
+/// that the store has there: a name that the literal of the call spells, and its bytes in the literal; and one for each place
+/// of a mapping that it has there: the template, the bytes of the placeholder that say which operand it puts, and the
+/// operand. Behind the line of a call that is off there is one that says why, where that can be told, and one for each hint under the options; hints are made
 /// one by one, and none is kept.
 ///
 /// ```
@@ -102,7 +106,8 @@ fn push_hint(out: &mut String, number: usize, hint: &CfgDiff) -> Result<(), Allo
     writeln!(out, "{number} hint {hint}")
 }
 
-/// Writes the line of the code of a call, and a line for each usage that the store has at the code.
+/// Writes the line of the code of a call, a line for each usage that the store has at the code, and one for each place of
+/// a mapping there.
 fn push_code(
     out: &mut String,
     store: &ExpressionStore,
@@ -115,8 +120,36 @@ fn push_code(
     write!(out, "{number} code ")?;
     push_expr(out, store, id)?;
     out.push_str("\n")?;
+    push_usages(out, store, number, id)?;
+    push_mapping(out, store, number, id)
+}
+
+/// Writes a line for each usage that the store has at the code of a call.
+fn push_usages(
+    out: &mut String,
+    store: &ExpressionStore,
+    number: usize,
+    id: ExprId,
+) -> Result<(), AllocError>
+    ensures { OnOk result (string_bytes out.new ≡ string_bytes out.old ++ use_lines number (entry_at store.now.format_args_to_captures (place_of id))) }
+{
     match store.format_args_to_captures.get(id) {
         Some(usages) => push_use_lines(out, number, usages.as_slice()),
+        None => Ok(()),
+    }
+}
+
+/// Writes a line for each place of the mapping that the store has at the code of a call.
+fn push_mapping(
+    out: &mut String,
+    store: &ExpressionStore,
+    number: usize,
+    id: ExprId,
+) -> Result<(), AllocError>
+    ensures { OnOk result (string_bytes out.new ≡ string_bytes out.old ++ map_lines number (entry_at store.now.asm_to_captures (place_of id))) }
+{
+    match store.asm_to_captures.get(id) {
+        Some(rows) => push_map_lines(out, number, rows.as_slice()),
         None => Ok(()),
     }
 }

@@ -10,7 +10,7 @@ use Rattle.syn_trees.specs.declared.format_call.Template.{Template}
 use Rattle.hir_expander.specs.Table.{Definition, defined, same_name}
 use Rattle.script_grammar.specs.Limits.{usual_limit}
 use Rattle.script_grammar.specs.declared.item.Item.{Item}
-use Rattle.script_grammar.specs.declared.item.Item.TheVariants.{Flag, Pair, Version, Limit, NoLang, Macro, Cfg, Attr, Format}
+use Rattle.script_grammar.specs.declared.item.Item.TheVariants.{Flag, Pair, Version, Limit, NoLang, Macro, Cfg, Attr, Format, Asm}
 use Rattle.script_grammar.specs.Script.{calls_in, counted}
 use Rattle.script.specs.declared.reading.Reading.{Reading}
 use Rattle.script.specs.Contents.{options_with, macros_with, limit_with, items_with, all_items, waiting_with, calls_at, calls_behind}
@@ -50,6 +50,7 @@ counts_call waiting (Some (Macro name body)) = omega arith
 counts_call waiting (Some (Cfg trees)) = omega arith
 counts_call waiting (Some (Attr syntax)) = omega arith
 counts_call waiting (Some (Format call)) = omega arith
+counts_call waiting (Some (Asm call)) = omega arith
 
 -- a line is a call as often as it is counted
 counts_as : (waiting : List CfgExpr) (line : Option Item) (n : ℕ) → counted line n ≡ n + length (calls_at waiting line)
@@ -63,6 +64,7 @@ counts_as waiting (Some (Macro name body)) n = omega arith
 counts_as waiting (Some (Cfg trees)) n = omega arith
 counts_as waiting (Some (Attr syntax)) n = omega arith
 counts_as waiting (Some (Format call)) n = omega arith
+counts_as waiting (Some (Asm call)) n = omega arith
 
 -- one call at most is added
 pub one_call : (old new : Reading) (line : Option Item) → GoesOn old line new → length new.calls.items ≤ length old.calls.items + 1
@@ -93,6 +95,7 @@ line_macro macros (Some (NoLang lang)) = omega arith
 line_macro macros (Some (Cfg trees)) = omega arith
 line_macro macros (Some (Attr syntax)) = omega arith
 line_macro macros (Some (Format call)) = omega arith
+line_macro macros (Some (Asm call)) = omega arith
 
 -- one macro at most is added
 pub one_macro : (old new : Reading) (line : Option Item) → GoesOn old line new → length new.macros ≤ length old.macros + 1

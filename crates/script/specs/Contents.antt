@@ -14,7 +14,7 @@ use Rattle.gated_calls.specs.declared.call.Call.TheVariants as called
 use Rattle.hir_expander.specs.Table.{Definition, defined}
 use Rattle.script_grammar.specs.Limits.{usual_limit}
 use Rattle.script_grammar.specs.declared.item.Item.{Item}
-use Rattle.script_grammar.specs.declared.item.Item.TheVariants.{Flag, Pair, Version, Limit, NoLang, Macro, Cfg, Attr, Format}
+use Rattle.script_grammar.specs.declared.item.Item.TheVariants.{Flag, Pair, Version, Limit, NoLang, Macro, Cfg, Attr, Format, Asm}
 
 -- what a script says
 pub record Contents : Type 0 where
@@ -60,11 +60,13 @@ abbrev pub waiting_with : List CfgExpr → Option Item → List CfgExpr
 waiting_with waiting (Some (Cfg trees)) = waiting ++ next_predicate trees ∷ []
 waiting_with waiting (Some (Attr syntax)) = waiting ++ meaning syntax ∷ []
 waiting_with waiting (Some (Format call)) = []
+waiting_with waiting (Some (Asm call)) = []
 waiting_with waiting other = waiting
 
 -- the call of a line, with the predicates that wait for it
 abbrev pub calls_at : List CfgExpr → Option Item → List GatedCall
 calls_at waiting (Some (Format call)) = record { cfgs = waiting; call = called.Format call } ∷ []
+calls_at waiting (Some (Asm call)) = record { cfgs = waiting; call = called.Asm call } ∷ []
 calls_at waiting other = []
 
 -- the calls of lines, in order, behind predicates that wait: each call has the predicates since the call before

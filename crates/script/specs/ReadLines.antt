@@ -1,11 +1,12 @@
 -- How far a script is read: what the lines so far say, and where the reader finds no line.
-use Rattle.std.specs.Prelude.{◌≡◌, ℕ, ◌+◌, ◌≤◌, List, [], ◌++◌, length, Option, None}
+use Rattle.std.specs.Prelude.{◌≡◌, ℕ, ◌+◌, ◌≤◌, List, [], ◌∷◌, ◌++◌, length, Option, None}
 use Rattle.std.specs.List.{fold}
 use Rattle.std.specs.Str.{IsUtf8}
 use Rattle.text_cut.specs.Runs.{size}
 use Rattle.text_cut.specs.Place.{Place, place}
 use Rattle.text_cut.specs.Reading.{SoFar}
 use Rattle.ra_cfg.specs.Options.{only_true}
+use Rattle.gated_calls.specs.declared.call.Call.{Call}
 use Rattle.script_tokens.specs.Items.{item_at}
 use Rattle.script_grammar.specs.Limits.{usual_limit}
 use Rattle.script_grammar.specs.declared.item.Item.{Item}
@@ -22,6 +23,15 @@ pub record GoesOn (old : Reading) (line : Option Item) (new : Reading) : Type 0 
   pub items : new.items ≡ items_with old.items line
   pub waiting : new.waiting ≡ waiting_with old.waiting line
   pub calls : new.calls.items ≡ old.calls.items ++ calls_at old.waiting line
+
+-- a call was added to what the lines in front of it say, with the predicates that waited for it
+pub record AddsCall (old : Reading) (call : Call) (new : Reading) : Type 0 where
+  pub same_options : new.options ≡ old.options
+  pub same_macros : new.macros ≡ old.macros
+  pub same_limit : new.limit ≡ old.limit
+  pub same_items : new.items ≡ old.items
+  pub none_waits : new.waiting ≡ []
+  pub calls : new.calls.items ≡ old.calls.items ++ record { cfgs = old.waiting; call = call } ∷ []
 
 -- these lines were read
 pub record HasRead (reading : Reading) (lines : List (Option Item)) : Type 0 where

@@ -2,7 +2,7 @@ ghost use Rattle.std.specs.Prelude.{◌≡◌, ◌<◌, ◌≤◌, [], Some, IfO
 ghost use Rattle.hir_expander.specs.Table.{max_macros};
 ghost use Rattle.script_grammar.specs.declared.item.Item.{Item};
 ghost use Rattle.script.specs.Contents.{without};
-ghost use Rattle.script.specs.ReadLines.{GoesOn, HasRead};
+ghost use Rattle.script.specs.ReadLines.{GoesOn, AddsCall, HasRead};
 
 use gated_calls::{Call, GatedCall};
 use hir_expander::MacroTable;
@@ -13,7 +13,7 @@ use sqlite_items::Items;
 use std::alloc::{AllocError, Global};
 use std::mem;
 use sym_core::AstPtr;
-use syn_trees::{CfgPredicate, FormatCall, Template, TokenTree, TopSubtree};
+use syn_trees::{CfgPredicate, TokenTree, TopSubtree};
 
 /// What the lines of a script have said so far.
 #[derive(Drop)]
@@ -88,11 +88,10 @@ impl Reading {
     }
 
     // Adds a call, with the predicates that waited for it.
-    fn push_call(&mut self, alloc: Global, call: FormatCall) -> Result<(), AllocError>
-        ensures { OnOk result (GoesOn self.old (Some (Item.Format call)) self.new) }
+    fn push_call(&mut self, alloc: Global, call: Call) -> Result<(), AllocError>
+        ensures { OnOk result (AddsCall self.old call self.new) }
     {
         let cfgs = mem::replace(&mut self.waiting, Items::new(alloc));
-        let call = Call::Format(call);
         self.calls.push(GatedCall { cfgs, call })?;
         Ok(())
     }
@@ -115,7 +114,8 @@ impl Reading {
             Item::Macro { name, body } => self.macros.define(name, body)?,
             Item::Cfg(trees) => self.push_trees(alloc, trees)?,
             Item::Attr(syntax) => self.push_syntax(alloc, syntax)?,
-            Item::Format(call) => self.push_call(alloc, call)?,
+            Item::Format(call) => self.push_call(alloc, Call::Format(call))?,
+            Item::Asm(call) => self.push_call(alloc, Call::Asm(call))?,
         }
         Ok(())
     }

@@ -7,7 +7,7 @@ use ra_cfg::{CfgAtom, CfgExpr};
 use std::alloc::{AllocError, Global};
 use std::test::Fail;
 use sym_core::{AstPtr, FileId, HirFileId, Symbol};
-use syn_trees::{FormatArgSyntax, FormatCall, MacroCallSrc, Template};
+use syn_trees::{AsmCall, FormatArgSyntax, FormatCall, MacroCallSrc, Template};
 
 // Adds a template as a script writes it; a leaf without its number.
 fn push_template(text: &mut String, template: Option<&Template>) -> Result<(), AllocError> {
@@ -49,7 +49,14 @@ fn push_format(alloc: Global, text: &mut String, call: &FormatCall) -> Result<()
     text.push('\n')
 }
 
-// Adds a line with the names of a call's predicates, its template and its arguments.
+// Adds how many templates and how many pieces an assembly call has.
+fn push_asm(alloc: Global, text: &mut String, call: &AsmCall) -> Result<(), AllocError> {
+    let templates = call.templates.len();
+    let pieces = call.pieces.len();
+    text.push_str(format!(in alloc; "asm {templates} {pieces}\n")?.as_str())
+}
+
+// Adds a line with the names of a call's predicates, and what is called.
 fn push_call(alloc: Global, text: &mut String, call: &GatedCall) -> Result<(), AllocError> {
     for cfg in call.cfgs.as_slice() {
         if let CfgExpr::Atom(CfgAtom::Flag(name)) = cfg {
@@ -57,8 +64,10 @@ fn push_call(alloc: Global, text: &mut String, call: &GatedCall) -> Result<(), A
             text.push(' ')?;
         }
     }
-    let Call::Format(format) = &call.call;
-    push_format(alloc, text, format)
+    match &call.call {
+        Call::Format(format) => push_format(alloc, text, format),
+        Call::Asm(asm) => push_asm(alloc, text, asm),
+    }
 }
 
 // The calls, one a line; or the line of the fault.
@@ -187,7 +196,7 @@ fn reads_templates(rt: HostRuntime) -> Result<(), Fail> {
 
 #[test]
 fn reads_predicates(rt: HostRuntime) -> Result<(), Fail> {
-    let cases: [(&[u8], &str); 12] = [
+    let cases: [(&[u8], &str); 15] = [
         (b"opt _a1", ""),
         (b"optb", "line 1"),
         (b"opt a b", "line 1"),
@@ -198,6 +207,15 @@ fn reads_predicates(rt: HostRuntime) -> Result<(), Fail> {
         (b"cfg a\n\nattr b\nformat \"x\"", "a b \"x\"\n"),
         (b"cfg a\nformat \"x\"\nformat \"y\"", "a \"x\"\n\"y\"\n"),
         (b"format \"x\"\ncfg a", "\"x\"\n"),
+        (
+            b"cfg a\nasm \"x\", ?; in reg @1; ?\nformat \"y\"",
+            "a asm 2 2\n\"y\"\n",
+        ),
+        (
+            b"cfg a\nformat \"x\"\nattr b\ncfg c\nasm global!",
+            "a \"x\"\nb c asm 1 0\n",
+        ),
+        (b"opt a\nasm \"x\";\n", "line 2"),
         (b"attr a b", "line 1"),
         (b"cfg (a]", "line 1"),
     ];
@@ -284,10 +302,8 @@ fn reads_marks(rt: HostRuntime) -> Result<(), Fail> {
     Ok(())
 }
 
-// Whether every pointer of a call is that of this node.
-fn is_at(call: &GatedCall, node: u32) -> bool {
-    let Call::Format(format) = &call.call;
-    let ptr = AstPtr { node };
+// Whether every pointer of a format call is this one.
+fn is_format_at(format: &FormatCall, ptr: AstPtr) -> bool {
     format.ptr == ptr
         && format.template_ptr == ptr
         && format
@@ -297,13 +313,22 @@ fn is_at(call: &GatedCall, node: u32) -> bool {
             .all(|arg| arg.expr.is_none_or(|leaf| leaf.ptr == ptr))
 }
 
+// Whether a call stands at this node.
+fn is_at(call: &GatedCall, node: u32) -> bool {
+    let ptr = AstPtr { node };
+    match &call.call {
+        Call::Format(format) => is_format_at(format, ptr),
+        Call::Asm(asm) => asm.ptr == ptr,
+    }
+}
+
 #[test]
 fn numbers_calls(rt: HostRuntime) -> Result<(), Fail> {
     let script = read_script(
         rt.alloc(),
-        b"format \"{}\" @7\nopt a\n\nformat \"x\"\nformat \"{}{}\" @1 a = @2",
+        b"format \"{}\" @7\nopt a\n\nasm \"x\"\nformat \"{}{}\" @1 a = @2\nasm ?",
     )?;
-    assert_eq!(rt; script.calls.len(), 3, "three calls");
+    assert_eq!(rt; script.calls.len(), 4, "four calls");
     for (node, call) in script.calls.iter().enumerate() {
         assert!(rt; is_at(call, node as u32), "call {node}");
     }

@@ -9,13 +9,20 @@ use Rattle.syn_trees.specs.declared.cfg_predicate.CfgPredicate.{Atom, Composite}
 use Rattle.syn_trees.specs.declared.cfg_predicate.CfgPredicate as pred
 use Rattle.syn_trees.specs.declared.cfg_predicate.CfgAtomKey.TheVariants as key
 use Rattle.syn_trees.specs.declared.format_call.Template.TheVariants as code
+use Rattle.syn_trees.specs.declared.asm_call.AsmDir.TheVariants.{In, InOut}
+use Rattle.syn_trees.specs.declared.asm_call.AsmRegSyntax.TheVariants as register
+use Rattle.syn_trees.specs.declared.asm_call.AsmExprSyntax.TheVariants.{Leaf, Underscore}
+use Rattle.syn_trees.specs.declared.asm_call.AsmOperandSyntax.TheVariants as operand_syntax
+use Rattle.syn_trees.specs.declared.asm_call.AsmPieceKind.TheVariants as kinds
 use Rattle.script_tokens.specs.declared.token.Bracket.TheVariants.{Round, Square}
 use Rattle.script_tokens.specs.Tokens.{Kind, Word, Numeral, Text, Mark, Open, Close, Tok}
-use Rattle.script_grammar.specs.declared.item.Item.TheVariants.{Flag, Pair, Version, Limit, NoLang, Macro, Cfg, Attr, Format}
+use Rattle.script_grammar.specs.declared.item.Item.TheVariants.{Flag, Pair, Version, Limit, NoLang, Macro, Cfg, Attr, Format, Asm}
 use Rattle.hir_store.specs.declared.lang_item.LangItem.TheVariants.{FormatArguments}
 use Rattle.script_grammar.specs.Templates.{node}
 use Rattle.script_grammar.specs.Trees.{group_in, trees_in}
 use Rattle.script_grammar.specs.Preds.{brackets_in, pred_in}
+use Rattle.script_grammar.specs.AsmOperands.{operand}
+use Rattle.script_grammar.specs.AsmPieces.{piece}
 use Rattle.script_grammar.specs.Items.{item_of}
 
 -- a token behind blanks, and one without
@@ -97,6 +104,65 @@ a_macro_call : item_of 0 (a_word (codes "format") ∷ a_word (codes "m") ∷ a_m
 }))
 unfolding item_of
 a_macro_call = refl
+
+-- `asm global "x", ?; cfg(a) cfg = inout r @7 => _`, as call number 3
+an_asm : item_of 3 (a_word (codes "asm") ∷ a_word (codes "global") ∷ tok (Text x) ∷ joined (Mark 44 Alone) ∷ a_mark 63 ∷ joined (Mark 59 Alone)
+    ∷ a_word (codes "cfg") ∷ joined (Open Round) ∷ joined (Word (codes "a")) ∷ joined (Close Round) ∷ a_word (codes "cfg") ∷ a_mark 61
+    ∷ a_word (codes "inout") ∷ a_word (codes "r") ∷ a_mark 64 ∷ joined (Numeral (codes "7")) ∷ tok (Mark 61 Joint) ∷ joined (Mark 62 Alone) ∷ a_word (codes "_") ∷ []) ≡ Some (Asm (record {
+      global = true;
+      naked = false;
+      templates = code.Str (codes "\"x\"") ∷ code.Other ∷ [];
+      pieces = record {
+        cfgs = Atom (Some (key.Ident (codes "a"))) None ∷ [];
+        kind = kinds.Operand (Some (codes "cfg")) (Some (operand_syntax.Reg (Some InOut) (Some (register.Class (codes "r"))) (Some (record {
+          first = Some (Leaf (record { leaf = 7; ptr = node 3 }));
+          arrow = true;
+          second = Some Underscore;
+        }))));
+      } ∷ [];
+      ptr = node 3;
+    }))
+unfolding item_of piece operand
+an_asm = refl
+
+-- `asm naked!` calls the macro `naked`; `asm naked !` is a naked call whose template is a macro call without a path
+a_naked_macro : item_of 0 (a_word (codes "asm") ∷ a_word (codes "naked") ∷ joined (Mark 33 Alone) ∷ []) ≡ Some (Asm (record {
+  global = false;
+  naked = false;
+  templates = code.Macro (record { path = Some (codes "naked") }) ∷ [];
+  pieces = [];
+  ptr = node 0;
+}))
+unfolding item_of
+a_naked_macro = refl
+
+a_naked_call : item_of 0 (a_word (codes "asm") ∷ a_word (codes "naked") ∷ a_mark 33 ∷ []) ≡ Some (Asm (record {
+  global = false;
+  naked = true;
+  templates = code.Macro (record { path = None }) ∷ [];
+  pieces = [];
+  ptr = node 0;
+}))
+unfolding item_of
+a_naked_call = refl
+
+-- `in _`, `in ? ?`
+a_class : operand 0 (a_word (codes "in") ∷ a_word (codes "_") ∷ []) ≡ Some (Some (operand_syntax.Reg (Some In) (Some (register.Class (codes "_"))) None), [])
+unfolding operand
+a_class = refl
+
+no_class : operand 0 (a_word (codes "in") ∷ a_mark 63 ∷ a_mark 63 ∷ []) ≡ Some (Some (operand_syntax.Reg (Some In) None (Some (record { first = None; arrow = false; second = None }))), [])
+unfolding operand
+no_class = refl
+
+-- `options(a,)` is no piece, `options()` is one
+no_options : piece 0 (a_word (codes "options") ∷ joined (Open Round) ∷ joined (Word (codes "a")) ∷ joined (Mark 44 Alone) ∷ joined (Close Round) ∷ []) ≡ None
+unfolding piece operand
+no_options = refl
+
+empty_options : piece 0 (a_word (codes "options") ∷ joined (Open Round) ∷ joined (Close Round) ∷ []) ≡ Some (record { cfgs = []; kind = kinds.Options [] }, [])
+unfolding piece operand
+empty_options = refl
 
 -- `cfg` alone has no trees
 no_trees : item_of 0 (a_word (codes "cfg") ∷ []) ≡ Some (Cfg [])

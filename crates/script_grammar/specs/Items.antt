@@ -5,7 +5,7 @@ use Rattle.script_tokens.specs.Tokens.{Tok}
 use Rattle.script_tokens.specs.Readers.{◌>>=◌, if_there, word, text, mark, arrow, whole}
 use Rattle.script_tokens.specs.Numbers.{number}
 use Rattle.script_grammar.specs.declared.item.Item.{Item}
-use Rattle.script_grammar.specs.declared.item.Item.TheVariants.{Flag, Pair, Version, Limit, NoLang, Macro, Cfg, Attr, Format}
+use Rattle.script_grammar.specs.declared.item.Item.TheVariants.{Flag, Pair, Version, Limit, NoLang, Macro, Cfg, Attr, Format, Asm}
 use Rattle.script_grammar.specs.declared.keyword.Keyword.{Keyword}
 use Rattle.script_grammar.specs.declared.keyword.Keyword.TheVariants as key
 use Rattle.script_grammar.specs.Limits.{max_limit}
@@ -13,6 +13,7 @@ use Rattle.script_grammar.specs.Keywords.{keyword_of, answer_of, lang_of}
 use Rattle.script_grammar.specs.Trees.{trees}
 use Rattle.script_grammar.specs.Preds.{pred}
 use Rattle.script_grammar.specs.Templates.{template, format_call}
+use Rattle.script_grammar.specs.Asm.{asm_call}
 
 -- WORD `=` STRING, behind the `=`; a string without a value is none
 abbrev pub opt_pair : List ℕ → List Tok → Option (Item × List Tok)
@@ -74,6 +75,10 @@ attr_item toks = pred toks >>= λ syntax. Some (Attr syntax.0, syntax.1)
 abbrev pub format_item : ℕ → List Tok → Option (Item × List Tok)
 format_item number toks = format_call number toks >>= λ call. Some (Format call.0, call.1)
 
+-- `asm`, the word in front of the templates if it is there, templates and pieces, as the call with this number
+abbrev pub asm_item : ℕ → List Tok → Option (Item × List Tok)
+asm_item number toks = asm_call number toks >>= λ call. Some (Asm call.0, call.1)
+
 -- what stands behind a keyword
 abbrev pub item_behind : ℕ → Keyword → List Tok → Option (Item × List Tok)
 item_behind number key.Opt toks = opt_item toks
@@ -84,6 +89,7 @@ item_behind number key.Macro toks = macro_item toks
 item_behind number key.Cfg toks = cfg_item toks
 item_behind number key.Attr toks = attr_item toks
 item_behind number key.Format toks = format_item number toks
+item_behind number key.Asm toks = asm_item number toks
 
 -- an item, and the tokens behind it
 abbrev pub item : ℕ → List Tok → Option (Item × List Tok)

@@ -2,7 +2,7 @@
 use Rattle.std.specs.Prelude.{ℕ, Bool, true, false, if◌then◌else◌, List, Option, Some, None, codes}
 use Rattle.std.specs.Str.{bytes_eq}
 use Rattle.script_grammar.specs.declared.keyword.Keyword.{Keyword}
-use Rattle.script_grammar.specs.declared.keyword.Keyword.TheVariants.{Opt, Version, Limit, NoLang, Macro, Cfg, Attr, Format}
+use Rattle.script_grammar.specs.declared.keyword.Keyword.TheVariants.{Opt, Version, Limit, NoLang, Macro, Cfg, Attr, Format, Asm}
 use Rattle.hir_store.specs.declared.lang_item.LangItem.{LangItem}
 use Rattle.hir_store.specs.declared.lang_item.LangItem.TheVariants.{FormatArguments, FormatArgument}
 
@@ -17,6 +17,7 @@ keyword_of word =
     if bytes_eq word (codes "cfg") then Some Cfg else
     if bytes_eq word (codes "attr") then Some Attr else
     if bytes_eq word (codes "format") then Some Format else
+    if bytes_eq word (codes "asm") then Some Asm else
     None
 
 -- the answer that a word says

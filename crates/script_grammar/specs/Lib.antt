@@ -2,6 +2,10 @@ pub mod Limits
 pub mod Trees
 pub mod Preds
 pub mod Templates
+pub mod AsmWords
+pub mod AsmOperands
+pub mod AsmPieces
+pub mod Asm
 pub mod Keywords
 pub mod Items
 pub mod Script

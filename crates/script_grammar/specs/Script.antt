@@ -2,13 +2,14 @@
 use Rattle.std.specs.Prelude.{ℕ, zero, suc, List, [], ◌∷◌, Option, Some}
 use Rattle.text_cut.specs.Reading.{Spelled}
 use Rattle.script_grammar.specs.declared.item.Item.{Item}
-use Rattle.script_grammar.specs.declared.item.Item.TheVariants.{Format}
+use Rattle.script_grammar.specs.declared.item.Item.TheVariants.{Format, Asm}
 use Rattle.script_tokens.specs.Items as lines
 use Rattle.script_grammar.specs.Items.{item_of}
 
 -- whether a line is a call, added to the calls behind it
 abbrev pub counted : Option Item → ℕ → ℕ
 counted (Some (Format call)) more = suc more
+counted (Some (Asm call)) more = suc more
 counted other more = more
 
 -- how many of the lines are calls

@@ -2,7 +2,7 @@ use crate::limit::RecursionLimit;
 use hir_store::LangItem;
 use sqlite_items::Items;
 use sym_core::Symbol;
-use syn_trees::{CfgPredicate, FormatCall, Template, TokenTree};
+use syn_trees::{AsmCall, CfgPredicate, FormatCall, Template, TokenTree};
 
 /// What a line of a script says.
 #[derive(Drop)]
@@ -40,4 +40,6 @@ pub enum Item {
     Attr(CfgPredicate),
     /// `format "x" @1`: a call of `format_args!`.
     Format(FormatCall),
+    /// `asm "nop"; in reg @1`: a call of `asm!`, `global_asm!` or `naked_asm!`.
+    Asm(AsmCall),
 }

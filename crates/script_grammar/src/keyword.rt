@@ -22,6 +22,8 @@ pub(crate) enum Keyword {
     Attr,
     /// `format`.
     Format,
+    /// `asm`.
+    Asm,
 }
 
 /// The keyword that a word is.
@@ -37,6 +39,7 @@ pub(crate) fn keyword_of(word: &str) -> Option<Keyword>
         "cfg" => Some(Keyword::Cfg),
         "attr" => Some(Keyword::Attr),
         "format" => Some(Keyword::Format),
+        "asm" => Some(Keyword::Asm),
         _ => None,
     }
 }

@@ -1,6 +1,12 @@
 //! The grammar of a script's lines, as functions on lists of tokens.
 #![tactic(auto)]
 
+mod asm;
+mod asm_operand;
+mod asm_piece;
+#[cfg(test)]
+mod asm_tests;
+mod asm_word;
 mod item;
 mod keyword;
 mod limit;

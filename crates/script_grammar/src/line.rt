@@ -3,8 +3,9 @@ ghost use Rattle.text_cut.specs.Seen.{seen};
 ghost use Rattle.syn_trees.specs.ReadString.{value_of};
 ghost use Rattle.script_tokens.specs.Found.{Stands, Found, Read};
 ghost use Rattle.script_tokens.specs.Items.{taken_at};
-ghost use Rattle.script_grammar.specs.Items.{opt_pair, opt_item, version_item, limit_item, nolang_item, macro_item, cfg_item, attr_item, format_item, item_behind, item, item_of};
+ghost use Rattle.script_grammar.specs.Items.{opt_pair, opt_item, version_item, limit_item, nolang_item, macro_item, cfg_item, attr_item, format_item, asm_item, item_behind, item, item_of};
 
+use crate::asm::asm_call;
 use crate::item::Item;
 use crate::keyword::{Keyword, answer_of, keyword_of, lang_of};
 use crate::limit::RecursionLimit;
@@ -149,6 +150,20 @@ fn format_item<'a>(
     Ok(Some((Item::Format(call), after)))
 }
 
+// What stands behind `asm`, as a call with this pointer.
+fn asm_item<'a>(
+    alloc: Global,
+    here: Cursor<'a>,
+    ptr: AstPtr,
+) -> Result<Option<(Item, Cursor<'a>)>, AllocError>
+    ensures { Read (λ i. i) (asm_item ptr.node) here.entry result }
+{
+    let Some((call, after)) = asm_call(alloc, here, ptr)? else {
+        return Ok(None);
+    };
+    Ok(Some((Item::Asm(call), after)))
+}
+
 // What stands behind a keyword; a call has this pointer.
 fn item_behind<'a>(
     alloc: Global,
@@ -167,6 +182,7 @@ fn item_behind<'a>(
         Keyword::Cfg => Ok(Some(cfg_item(alloc, here)?)),
         Keyword::Attr => attr_item(alloc, here),
         Keyword::Format => format_item(alloc, here, ptr),
+        Keyword::Asm => asm_item(alloc, here, ptr),
     }
 }
 

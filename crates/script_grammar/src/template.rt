@@ -90,8 +90,8 @@ fn expr_behind<'a>(
     }
 }
 
-// A leaf, or `?` for none.
-fn expr<'a>(here: Cursor<'a>, ptr: AstPtr) -> Option<(Option<LeafSyntax>, Cursor<'a>)>
+/// A leaf, or `?` for none.
+pub(crate) fn expr<'a>(here: Cursor<'a>, ptr: AstPtr) -> Option<(Option<LeafSyntax>, Cursor<'a>)>
     ensures { Found (λ e. e) (expr ptr.node) here.entry result }
 {
     let (token, behind) = next_token(here)?;

@@ -79,6 +79,7 @@ fn parts_stand(store: &ExpressionStore, expr: &Expr) -> bool
             tail,
             ..
         } => steps_stand(store, statements.get().as_slice(), *tail),
+        Expr::InlineAsm(_) => false,
     }
 }
 

@@ -1,7 +1,3 @@
-use Rattle.std.proofs.Common.{◌≡◌, drop}
-use Rattle.std.specs.Option.{option_map}
-use Rattle.cfg_dnf.specs.Form.{part_forms, sum_first, product_first}
-use Rattle.cfg_dnf.specs.Making.{shifted}
 use Rattle.cfg_dnf.proofs.Beginning.{BegunSum, BegunProduct}
 use Rattle.cfg_dnf.proofs.choices.+beginning.Given as goal
 

@@ -1,4 +1,4 @@
-use Rattle.std.proofs.Common.{◌≡◌, ◌+◌, ◌<◌, ◌≤◌, length, ap, sym, ◌∙◌, arith, rules}
+use Rattle.std.proofs.Common.{◌<◌, length, arith, rules}
 use Rattle.std.proofs.lemmas.Grind.{common_steps}
 use Rattle.cfg_dnf.proofs.Going.{leaf_form, unmade_at, no_parts, one_part, next_of_none, next_of_one, next_behind, next_none, next_in_front, sum_next_no_part, sum_next_found, sum_next_behind}
 use Rattle.cfg_dnf.proofs.choices.+going.Goals as goal

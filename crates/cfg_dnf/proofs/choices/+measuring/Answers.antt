@@ -1,4 +1,4 @@
-use Rattle.std.proofs.Common.{ap, sym, ◌∙◌}
+use Rattle.std.proofs.Common.{sym, ◌∙◌}
 use Rattle.cfg_dnf.proofs.Going.{width_of_sum, sum_width_at, sum_width_past}
 use Rattle.cfg_dnf.proofs.choices.+measuring.Goals as goal
 

@@ -1,4 +1,4 @@
-use Rattle.std.proofs.Common.{◌++◌, ap, sym, ◌∙◌, [], ◌≡◌, IfOk, List, subst}
+use Rattle.std.proofs.Common.{◌++◌, ap, sym, ◌∙◌, ◌≡◌, IfOk, List, subst}
 use Rattle.cfg_dnf.specs.declared.literal.Literal.{Literal}
 use Rattle.std.proofs.lemmas.List.{append-nil}
 use Rattle.cfg_dnf.proofs.Going.{sum_chosen_at, sum_chosen_past}

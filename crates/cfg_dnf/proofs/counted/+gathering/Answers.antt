@@ -1,4 +1,4 @@
-use Rattle.std.proofs.Common.{◌+◌, ◌<◌, length, ap, ◌∙◌, arith, is_some}
+use Rattle.std.proofs.Common.{◌<◌, length, ap, ◌∙◌, arith, is_some}
 use Rattle.std.specs.FinMap as finite
 use Rattle.cfg_dnf.proofs.Gathered.{gathers_part, opens, gathers_version}
 use Rattle.cfg_dnf.proofs.counted.+gathering.Goals as goal

@@ -1,4 +1,4 @@
-use Rattle.std.proofs.Common.{◌≡◌, ◌<◌, ◌||◌, ◌+◌, length, drop, ap, sym, ◌∙◌, arith}
+use Rattle.std.proofs.Common.{◌<◌, ◌||◌, ◌+◌, length, drop, ap, sym, ◌∙◌, arith}
 use Rattle.std.specs.List.{list_any, filter_map}
 use Rattle.std.specs.FinSet as set
 use Rattle.ra_cfg.specs.Options.{atom_cmp}

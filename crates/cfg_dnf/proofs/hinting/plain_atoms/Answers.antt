@@ -1,6 +1,5 @@
-use Rattle.std.proofs.Common.{◌≡◌, ◌<◌, length, ap, arith}
+use Rattle.std.proofs.Common.{◌<◌, length, arith}
 use Rattle.std.specs.FinSet as set
-use Rattle.ra_cfg.specs.Options.{atom_cmp}
 use Rattle.cfg_dnf.proofs.Gathered.{put_one}
 use Rattle.cfg_dnf.proofs.hinting.plain_atoms.Goals as goal
 

@@ -1,6 +1,6 @@
 use Rattle.std.proofs.Common.{◌≡◌, Some, None, subst}
 use Rattle.ra_cfg.specs.declared.cfg_expr.CfgExpr.{CfgExpr}
-use Rattle.cfg_dnf.specs.Hints.{Reason, reason}
+use Rattle.cfg_dnf.specs.Hints.{reason}
 use Rattle.cfg_dnf.proofs.Reasoned.{none_where_true, none_where_open, some_gathered}
 use Rattle.cfg_dnf.proofs.dnf.DnfExpr.why_inactive.Goals as goal
 

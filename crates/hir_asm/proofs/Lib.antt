@@ -1,0 +1,4 @@
+mod Parts
+mod Rows
+mod Places
+mod Calls
