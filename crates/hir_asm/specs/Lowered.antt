@@ -8,7 +8,7 @@ use Rattle.hir_store.specs.declared.ids.ExprId.{ExprId}
 use Rattle.hir_store.specs.declared.asm.AsmRow.{AsmRow}
 use Rattle.hir_store.specs.declared.store.ExpressionStore.{ExpressionStore}
 use Rattle.hir_store.specs.Unfolding.{place_of, tree_at}
-use Rattle.hir_store.specs.Sources.{entry_at}
+use Rattle.hir_store.specs.Entries.{entry_at}
 use Rattle.hir_build.specs.Origins.{origins_at}
 use Rattle.hir_asm.specs.Operands.{Written, operands_written, bits_written}
 use Rattle.hir_asm.specs.Code.{asm_tree, asm_origins}

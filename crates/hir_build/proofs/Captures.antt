@@ -2,8 +2,6 @@
 use Rattle.std.proofs.Common.{◌≡◌, ◌≢◌, ℕ, ◌≤◌, List, [], ◌∷◌, length, reverse, drop, nat_eq, true, slice_get, unwrap_or, Option, Some, refl, sym, ap, ap₂, ◌∙◌, ◌+◌, subst, arith, eq-eqb}
 use Rattle.std.proofs.lemmas.List.{length-reverse}
 use Rattle.std.proofs.lemmas.Bool.{cond-true}
-use Rattle.la_arena.specs.Map.{slot_at, with_slot}
-use Rattle.la_arena.proofs.MapLemmas.{Updates-with_slot}
 use Rattle.sym_core.specs.declared.files.InFile.{InFile}
 use Rattle.sym_core.specs.declared.name.Name.{Name}
 use Rattle.sym_core.specs.declared.text_range.TextRange.{TextRange}
@@ -14,7 +12,8 @@ use Rattle.hir_store.specs.declared.source.CaptureSource.{CaptureSource}
 use Rattle.hir_store.specs.declared.store.ExpressionStore.{ExpressionStore}
 use Rattle.hir_store.specs.Tree.{Tree}
 use Rattle.hir_store.specs.Unfolding.{place_of}
-use Rattle.hir_store.specs.Sources.{entry_at, with_entry, SameBelow}
+use Rattle.hir_store.specs.Entries.{entry_at, with_entry}
+use Rattle.hir_store.specs.Sources.{SameBelow}
 use Rattle.hir_store.specs.Store.{Grows}
 use Rattle.hir_store.proofs.Entered.{entered, same_by_entry}
 use Rattle.hir_build.specs.Frame.{Frame}
@@ -23,13 +22,6 @@ use Rattle.hir_build.specs.Placed.{Placed}
 use Rattle.hir_build.specs.Building.{Builds}
 use Rattle.hir_build.specs.Captures.{with_capture, with_captures, Notes, with_mapping, NotesMapping}
 use Rattle.hir_build.proofs.Origins.{same_functions, same_origins}
-
-module _ {A : Type 0} (limit : ℕ) (slots : List (Option A)) (place : ℕ) (slot : Option A) where
-  -- a write at the limit or behind it changes nothing below
-  same_by_write : (old : List (Option A)) → limit ≤ place → SameBelow limit (slot_at old) (slot_at slots) → SameBelow limit (slot_at old) (slot_at (with_slot slots place slot))
-  same_by_write old le was number lt =
-      let other : number ≢ place = λ e. omega (arith, e, le, lt) in
-      (Updates-with_slot slots (with_slot slots place slot) place slot refl).others number other ∙ was number lt
 
 -- the place of a name that is captured
 
@@ -42,20 +34,20 @@ module _ (store : ExpressionStore) (id : ExprId) (source : InFile CaptureSource)
     bindings = grows.bindings;
     older = record {
       sources = grows.older.sources;
-      capture_sources = same_by_write (length old.exprs) store.implicit_capture_to_source (place_of id) (Some source) old.implicit_capture_to_source le grows.older.capture_sources;
+      capture_sources = same_by_entry id source (length old.exprs) store.implicit_capture_to_source old.implicit_capture_to_source le grows.older.capture_sources;
       captures = grows.older.captures;
       mappings = grows.older.mappings;
     };
   }
 
   -- the map has the place
-  captured_at : slot_at (with_capture store id source).implicit_capture_to_source (place_of id) ≡ Some source
-  captured_at = (Updates-with_slot store.implicit_capture_to_source (with_slot store.implicit_capture_to_source (place_of id) (Some source)) (place_of id) (Some source) refl).changed
+  captured_at : entry_at (with_capture store id source).implicit_capture_to_source (place_of id) ≡ Some source
+  captured_at = entered id source store.implicit_capture_to_source
 
 -- the origins among expressions in front of the one that is captured
 captured_before : (store : ExpressionStore) (id : ExprId) (source : InFile CaptureSource) (es : List Expr) → length es ≤ place_of id → origins_in (with_capture store id source) es ≡ origins_in store es
 captured_before store id source es le = same_functions (origins_in (with_capture store id source) es) (origins_in store es) (same_origins store (with_capture store id source) (place_of id) (λ number lt. refl)
-    (same_by_write (place_of id) store.implicit_capture_to_source (place_of id) (Some source) store.implicit_capture_to_source (omega arith) (λ number lt. refl)) es le)
+    (same_by_entry id source (place_of id) store.implicit_capture_to_source store.implicit_capture_to_source (omega arith) (λ number lt. refl)) es le)
 
 same_front : (x y : Origin) (xs ys : List Origin) → x ∷ xs ≡ y ∷ ys → x ≡ y
 same_front x y xs ys is = ap (λ os. unwrap_or (slice_get os 0) x) is
@@ -77,7 +69,7 @@ captured_in store id source (e ∷ es) own rest at comes =
     (cond-true (nat_eq (place_of id) (length es)) (origin_at store (place_of id) ∷ node_origins (origins_in store es) e) (origins_in store es id) here) ∙ comes in
     let parts : node_origins (origins_in new es) e ≡ rest = ap (λ f. node_origins f e) (captured_before store id source es (omega (arith, at)))
     ∙ same_rest (origin_at store (place_of id)) own (node_origins (origins_in store es) e) rest was in
-    let first : origin_at new (place_of id) ≡ captured own source = ap (λ c. record { source = slot_at store.expr_map_back (place_of id); capture = c }) (captured_at store id source)
+    let first : origin_at new (place_of id) ≡ captured own source = ap (λ c. record { source = entry_at store.expr_map_back (place_of id); capture = c }) (captured_at store id source)
     ∙ ap (λ (o : Origin). captured o source) (same_front (origin_at store (place_of id)) own (node_origins (origins_in store es) e) rest was) in
     cond-true (nat_eq (place_of id) (length es)) (origin_at new (place_of id) ∷ node_origins (origins_in new es) e) (origins_in new es id) here ∙ ap₂ (λ o os. o ∷ os) first parts
 

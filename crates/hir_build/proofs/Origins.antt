@@ -2,11 +2,11 @@
 use Rattle.std.proofs.Common.{◌≡◌, ℕ, ◌<◌, ◌≤◌, Bool, true, false, cond, nat_eq, List, [], ◌∷◌, ◌++◌, length, reverse, refl, sym, ap, ap₂, ◌∙◌, arith, length-append, eq-eqb, ne_eqb, eqb-true}
 use Rattle.std.proofs.lemmas.List.{reverse-append, length-reverse}
 use Rattle.std.proofs.lemmas.Bool.{cond-true, cond-false}
-use Rattle.la_arena.specs.Map.{slot_at}
 use Rattle.hir_store.specs.declared.ids.ExprId.{ExprId}
 use Rattle.hir_store.specs.declared.expr.Expr.{Expr}
 use Rattle.hir_store.specs.declared.store.ExpressionStore.{ExpressionStore}
 use Rattle.hir_store.specs.Unfolding.{place_of}
+use Rattle.hir_store.specs.Entries.{entry_at}
 use Rattle.hir_store.specs.Sources.{SameBelow, SameAtOlder}
 use Rattle.hir_store.specs.Store.{Grows, PlacesExpr}
 use Rattle.hir_build.specs.Origins.{Origin, origin_at, node_origins, origins_in, origins_at, origins_over}
@@ -20,7 +20,7 @@ same_step true own limit x y z w is here there = here (eqb-true own limit (sym i
 same_step false own limit x y z w is here there = there
 
 -- maps that hold the same below a limit give the same origins among as many expressions
-pub same_origins : (old new : ExpressionStore) (limit : ℕ) → SameBelow limit (slot_at old.expr_map_back) (slot_at new.expr_map_back) → SameBelow limit (slot_at old.implicit_capture_to_source) (slot_at new.implicit_capture_to_source) →
+pub same_origins : (old new : ExpressionStore) (limit : ℕ) → SameBelow limit (entry_at old.expr_map_back) (entry_at new.expr_map_back) → SameBelow limit (entry_at old.implicit_capture_to_source) (entry_at new.implicit_capture_to_source) →
     (es : List Expr) → length es ≤ limit → (id : ExprId) → origins_in new es id ≡ origins_in old es id
 same_origins old new limit sources captures [] le id = refl
 same_origins old new limit sources captures (e ∷ es) le id =

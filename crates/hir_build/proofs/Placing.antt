@@ -1,7 +1,5 @@
 -- An expression placed behind the others: what it leaves of a builder, and where it comes from.
 use Rattle.std.proofs.Common.{◌≡◌, ℕ, ◌⊎◌, inl, inr, List, [], ◌∷◌, length, Option, Some, None, IsTrue, refl, sym, ap, ap₂, ◌∙◌, arith, length-append}
-use Rattle.la_arena.specs.Map.{slot_at}
-use Rattle.la_arena.proofs.MapLemmas.{Updates-with_slot}
 use Rattle.sym_core.specs.declared.files.AstPtr.{AstPtr}
 use Rattle.sym_core.specs.declared.files.InFile.{InFile}
 use Rattle.hir_store.specs.declared.ids.ExprId.{ExprId}
@@ -9,9 +7,11 @@ use Rattle.hir_store.specs.declared.expr.Expr.{Expr}
 use Rattle.hir_store.specs.declared.store.ExpressionStore.{ExpressionStore}
 use Rattle.hir_store.specs.Tree.{is_whole}
 use Rattle.hir_store.specs.Unfolding.{place_of, tree_over}
+use Rattle.hir_store.specs.Entries.{entry_at}
 use Rattle.hir_store.specs.Sources.{HoldsBelow, NoDanglingKeys, SameAtOlder, SameMaps, EntersSource}
 use Rattle.hir_store.specs.Store.{Grows, Stands, NoDanglingIds, PlacesExpr, PlacesNewest}
 use Rattle.hir_store.proofs.Defined.{defined_still}
+use Rattle.hir_store.proofs.Entered.{entered}
 use Rattle.hir_build.specs.Frame.{Frame, IsSound}
 use Rattle.hir_build.specs.Origins.{bare, origins_over}
 use Rattle.hir_build.specs.Placed.{Placed}
@@ -20,9 +20,9 @@ use Rattle.hir_build.proofs.Origins.{origins_placed}
 use Rattle.hir_build.proofs.Builds.{builds_grown}
 
 -- a map that holds values below a limit alone holds nothing at it
-none_at : {A : Type 0} (limit : ℕ) (slots : List (Option A)) → HoldsBelow limit (slot_at slots) → slot_at slots limit ≡ None
-none_at {A = A} limit slots held = decide (slot_at slots limit) refl where
-  decide : (there : Option A) → slot_at slots limit ≡ there → there ≡ None
+none_at : {A : Type 0} (limit : ℕ) (entries : List (ExprId × A)) → HoldsBelow limit (entry_at entries) → entry_at entries limit ≡ None
+none_at {A = A} limit entries held = decide (entry_at entries limit) refl where
+  decide : (there : Option A) → entry_at entries limit ≡ there → there ≡ None
   decide None is = refl
   decide (Some value) is = absurd (omega (arith, held limit value is))
 
@@ -49,8 +49,8 @@ module _ (old new : ExpressionStore) (e : Expr) (id : ExprId) (places : PlacesEx
   placed_bare maps = record {
     stands = stands;
     comes = origins_placed old new e id bare places older (ap₂ (λ s c. record { source = s; capture = c })
-        (ap (λ slots. slot_at slots (length old.exprs)) maps.sources ∙ none_at (length old.exprs) old.expr_map_back held.sources)
-        (ap (λ slots. slot_at slots (length old.exprs)) maps.capture_sources ∙ none_at (length old.exprs) old.implicit_capture_to_source held.capture_sources));
+        (ap (λ entries. entry_at entries (length old.exprs)) maps.sources ∙ none_at (length old.exprs) old.expr_map_back held.sources)
+        (ap (λ entries. entry_at entries (length old.exprs)) maps.capture_sources ∙ none_at (length old.exprs) old.implicit_capture_to_source held.capture_sources));
   }
 
   -- an expression with its source
@@ -58,8 +58,8 @@ module _ (old new : ExpressionStore) (e : Expr) (id : ExprId) (places : PlacesEx
   placed_source source enters = record {
     stands = stands;
     comes = origins_placed old new e id (record { source = Some source; capture = None }) places older (ap₂ (λ s c. record { source = s; capture = c })
-        (ap (slot_at new.expr_map_back) (sym places.place) ∙ (Updates-with_slot old.expr_map_back new.expr_map_back (place_of id) (Some source) enters.sources).changed)
-        (ap (λ slots. slot_at slots (length old.exprs)) enters.capture_sources ∙ none_at (length old.exprs) old.implicit_capture_to_source held.capture_sources));
+        (ap (entry_at new.expr_map_back) (sym places.place) ∙ ap (λ entries. entry_at entries (place_of id)) enters.sources ∙ entered id source old.expr_map_back)
+        (ap (λ entries. entry_at entries (length old.exprs)) enters.capture_sources ∙ none_at (length old.exprs) old.implicit_capture_to_source held.capture_sources));
   }
 
 -- an expression placed in the store of a builder

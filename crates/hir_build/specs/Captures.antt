@@ -1,6 +1,5 @@
 -- What is kept of calls: a name that a format call uses has its place in the template, the code of the call has all of them, and the code of inline assembly has the operands that its templates put.
 use Rattle.std.specs.Prelude.{◌≡◌, List, Option, Some}
-use Rattle.la_arena.specs.Map.{with_slot}
 use Rattle.sym_core.specs.declared.files.AstPtr.{AstPtr}
 use Rattle.sym_core.specs.declared.files.HirFileId.{HirFileId}
 use Rattle.sym_core.specs.declared.files.InFile.{InFile}
@@ -10,14 +9,13 @@ use Rattle.hir_store.specs.declared.ids.ExprId.{ExprId}
 use Rattle.hir_store.specs.declared.source.CaptureSource.{CaptureSource}
 use Rattle.hir_store.specs.declared.asm.AsmRow.{AsmRow}
 use Rattle.hir_store.specs.declared.store.ExpressionStore.{ExpressionStore}
-use Rattle.hir_store.specs.Unfolding.{place_of}
-use Rattle.hir_store.specs.Sources.{with_entry}
+use Rattle.hir_store.specs.Entries.{with_entry}
 use Rattle.hir_build.specs.Origins.{Origin, in_file}
 use Rattle.hir_build.specs.Frame.{Frame}
 
 -- the store in which an expression has this place in a template
 abbrev pub with_capture : ExpressionStore → ExprId → InFile CaptureSource → ExpressionStore
-with_capture store id source = record store { implicit_capture_to_source = with_slot store.implicit_capture_to_source (place_of id) (Some source) }
+with_capture store id source = record store { implicit_capture_to_source = with_entry store.implicit_capture_to_source id source }
 
 -- an expression at a pointer of a file and at a place of a template there, where it has them
 abbrev pub capture_origin : HirFileId → Option AstPtr → Option CaptureSource → Origin

@@ -1,6 +1,5 @@
 -- Where code comes from in the source: one origin for each expression of its tree, in preorder.
 use Rattle.std.specs.Prelude.{ℕ, List, [], ◌∷◌, ◌++◌, nat_eq, cond, reverse, length, Option, Some, None}
-use Rattle.la_arena.specs.Map.{slot_at}
 use Rattle.sym_core.specs.declared.files.AstPtr.{AstPtr}
 use Rattle.sym_core.specs.declared.files.HirFileId.{HirFileId}
 use Rattle.sym_core.specs.declared.files.InFile.{InFile}
@@ -13,6 +12,7 @@ use Rattle.hir_store.specs.declared.expr.Statement.{Statement}
 use Rattle.hir_store.specs.declared.expr.Statement.TheVariants as statement
 use Rattle.hir_store.specs.declared.source.CaptureSource.{CaptureSource}
 use Rattle.hir_store.specs.declared.store.ExpressionStore.{ExpressionStore}
+use Rattle.hir_store.specs.Entries.{entry_at}
 use Rattle.hir_store.specs.Unfolding.{place_of, operand_exprs}
 
 -- the source of an expression, and where a format call captures it
@@ -35,7 +35,7 @@ from_source file ptr = record { source = in_file file ptr; capture = None }
 
 -- what the maps hold at a number
 abbrev pub origin_at : ExpressionStore → ℕ → Origin
-origin_at store number = record { source = slot_at store.expr_map_back number; capture = slot_at store.implicit_capture_to_source number }
+origin_at store number = record { source = entry_at store.expr_map_back number; capture = entry_at store.implicit_capture_to_source number }
 
 -- the origins of indexes in a row
 abbrev pub all_origins : (ExprId → List Origin) → List ExprId → List Origin

@@ -17,7 +17,7 @@ use hir_store::{
     LangItems, Literal, Pat, Statement,
 };
 use sqlite_items::{Boxed, Items};
-use std::alloc::{AllocError, Global};
+use std::alloc::Global;
 use std::marker::Model;
 use sym_core::{AstPtr, HirFileId, InFile, Name, TextRange};
 
@@ -31,7 +31,7 @@ use sym_core::{AstPtr, HirFileId, InFile, Name, TextRange};
 /// let x = builder.leaf(7, Some(ptr))?;
 /// let reference = builder.reference(x)?;
 /// assert!(rt; matches!(builder.store().exprs[reference.idx()], Expr::Ref(_)));
-/// assert_eq!(rt; builder.store().expr_map_back.get(x.idx()), Some(&InFile { file_id: file, value: ptr }));
+/// assert_eq!(rt; builder.store().expr_map_back.get(x), Some(&InFile { file_id: file, value: ptr }));
 /// ```
 ///
 /// A call that is refused may leave what it placed before. `ArenaFull` comes only where an arena holds too many values
@@ -434,14 +434,8 @@ impl Builder {
             file_id: self.file,
             value: source,
         };
-        match self
-            .store
-            .implicit_capture_to_source
-            .insert(id.idx(), source)
-        {
-            Ok(_) => Ok(()),
-            Err(_) => Err(LowerError::Memory(AllocError)),
-        }
+        self.store.implicit_capture_to_source.insert(id, source)?;
+        Ok(())
     }
 
     // Places an expression that stands nowhere in the source.

@@ -15,7 +15,7 @@ use Rattle.hir_store.specs.declared.ids.ExprId.{ExprId}
 use Rattle.hir_store.specs.declared.store.ExpressionStore.{ExpressionStore}
 use Rattle.hir_store.specs.Tree.{Path}
 use Rattle.hir_store.specs.Unfolding.{place_of, tree_at}
-use Rattle.hir_store.specs.Sources.{entry_at}
+use Rattle.hir_store.specs.Entries.{entry_at}
 use Rattle.hir_store.specs.PartsBelow.{AllBelow}
 use Rattle.hir_fmt.specs.declared.format_args.FormatArgument.{FormatArgument}
 use Rattle.hir_fmt.specs.declared.format_args.FormatArguments.{FormatArguments}

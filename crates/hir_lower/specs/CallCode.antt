@@ -10,7 +10,7 @@ use Rattle.fmt_parse.specs.declared.piece.Piece.{Piece}
 use Rattle.hir_store.specs.declared.ids.ExprId.{ExprId}
 use Rattle.hir_store.specs.declared.store.ExpressionStore.{ExpressionStore}
 use Rattle.hir_store.specs.Unfolding.{place_of, tree_at}
-use Rattle.hir_store.specs.Sources.{entry_at}
+use Rattle.hir_store.specs.Entries.{entry_at}
 use Rattle.hir_build.specs.Origins.{Origin, origins_at}
 use Rattle.hir_build.specs.Captures.{capture_origin}
 use Rattle.hir_fmt.specs.References.{Source, references_of}

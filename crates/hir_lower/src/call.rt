@@ -3,7 +3,7 @@
 ghost use Rattle.std.specs.Prelude.{◌≡◌, ◌+◌, ◌*◌, ◌<◌, ◌≤◌, ℕ, false, Some, IfOk, length};
 ghost use Rattle.hir_store.specs.Unfolding.{place_of};
 ghost use Rattle.hir_store.specs.PartsBelow.{AllBelow};
-ghost use Rattle.hir_store.specs.Sources.{entry_at};
+ghost use Rattle.hir_store.specs.Entries.{entry_at};
 ghost use Rattle.hir_build.specs.Building.{Builds, Outgrows};
 ghost use Rattle.template_bytes.specs.Canonical.{canonical_pieces};
 ghost use Rattle.template_bytes.specs.Pairs.{pairs_of};

@@ -1,35 +1,40 @@
 -- What entries have once there is one more for the code of a call.
-use Rattle.std.proofs.Common.{◌≡◌, ◌≢◌, ℕ, ◌<◌, ◌≤◌, ◌⊎◌, inl, inr, Bool, true, false, cond, if◌then◌else◌, List, [], ◌∷◌, length, Some, None, refl, sym, ap, ◌∙◌, arith, eq-eqb, ne_eqb, eqb-true}
+use Rattle.std.proofs.Common.{◌≡◌, ◌≢◌, ℕ, ◌<◌, ◌≤◌, ◌⊎◌, inl, inr, nat_eq, nat_lt, Bool, true, false, cond, if◌then◌else◌, List, [], ◌∷◌, length, Some, None, refl, sym, ap, ◌∙◌, arith, eq-eqb, ne_eqb, eqb-true}
 use Rattle.std.proofs.lemmas.Bool.{cases_eq}
+use Rattle.sym_core.specs.declared.files.InFile.{InFile}
 use Rattle.sym_core.specs.declared.name.Name.{Name}
 use Rattle.sym_core.specs.declared.text_range.TextRange.{TextRange}
 use Rattle.hir_store.specs.declared.ids.ExprId.{ExprId}
 use Rattle.hir_store.specs.declared.asm.AsmRow.{AsmRow}
+use Rattle.hir_store.specs.declared.source.CaptureSource.{CaptureSource}
 use Rattle.hir_store.specs.declared.store.ExpressionStore.{ExpressionStore}
 use Rattle.hir_store.specs.Unfolding.{place_of}
-use Rattle.hir_store.specs.Sources.{has_number, entry_at, with_entry, HoldsBelow, SameBelow}
+use Rattle.hir_store.specs.Sources.{HoldsBelow, SameBelow}
+use Rattle.hir_store.specs.Entries.{has_number, place_in, entry_at, with_entry}
 use Rattle.hir_store.specs.Store.{NoDanglingIds}
 
 module _ {A : Type 0} (code : ExprId) (value : A) where
   -- the code has it
   pub entered : (entries : List (ExprId × A)) → entry_at (with_entry entries code value) (place_of code) ≡ Some value
   entered [] = ap (λ b. cond b (Some value) None) (eq-eqb (place_of code) (place_of code) refl)
-  entered (e ∷ entries) = decide (has_number (place_of code) e.0) refl (entered entries) where
-    decide : (here : Bool) → has_number (place_of code) e.0 ≡ here → entry_at (with_entry entries code value) (place_of code) ≡ Some value →
-        entry_at (if here then (e.0, value) ∷ entries else e ∷ with_entry entries code value) (place_of code) ≡ Some value
-    decide true is later = ap (λ b. cond b (Some value) (entry_at entries (place_of code))) is
-    decide false is later = ap (λ b. cond b (Some e.1) (entry_at (with_entry entries code value) (place_of code))) is ∙ later
+  entered (e ∷ entries) = decide (nat_lt (place_of code) (place_in e)) (nat_eq (place_of code) (place_in e)) refl (entered entries) where
+    decide : (lt same : Bool) → nat_eq (place_of code) (place_in e) ≡ same → entry_at (with_entry entries code value) (place_of code) ≡ Some value →
+        entry_at (if lt then (code, value) ∷ e ∷ entries else if same then (code, value) ∷ entries else e ∷ with_entry entries code value) (place_of code) ≡ Some value
+    decide true same is later = ap (λ b. cond b (Some value) (entry_at (e ∷ entries) (place_of code))) (eq-eqb (place_of code) (place_of code) refl)
+    decide false true is later = ap (λ b. cond b (Some value) (entry_at entries (place_of code))) (eq-eqb (place_of code) (place_of code) refl)
+    decide false false is later = ap (λ b. cond b (Some e.1) (entry_at (with_entry entries code value) (place_of code))) is ∙ later
 
   -- each other number has what it had
   pub entered_others : (entries : List (ExprId × A)) (number : ℕ) → number ≢ place_of code → entry_at (with_entry entries code value) number ≡ entry_at entries number
   entered_others [] number differs = ap (λ b. cond b (Some value) None) (ne_eqb number (place_of code) differs)
-  entered_others (e ∷ entries) number differs = decide (has_number (place_of code) e.0) refl (entered_others entries number differs) where
-    decide : (here : Bool) → has_number (place_of code) e.0 ≡ here → entry_at (with_entry entries code value) number ≡ entry_at entries number →
-        entry_at (if here then (e.0, value) ∷ entries else e ∷ with_entry entries code value) number ≡ entry_at (e ∷ entries) number
-    decide true is later =
-        let other : has_number number e.0 ≡ false = ne_eqb number (place_of e.0) (λ same. differs (same ∙ sym (eqb-true (place_of code) (place_of e.0) is))) in
-        ap (λ b. cond b (Some value) (entry_at entries number)) other ∙ sym (ap (λ b. cond b (Some e.1) (entry_at entries number)) other)
-    decide false is later = ap (λ found. cond (has_number number e.0) (Some e.1) found) later
+  entered_others (e ∷ entries) number differs = decide (nat_lt (place_of code) (place_in e)) (nat_eq (place_of code) (place_in e)) refl (entered_others entries number differs) where
+    decide : (lt same : Bool) → nat_eq (place_of code) (place_in e) ≡ same → entry_at (with_entry entries code value) number ≡ entry_at entries number →
+        entry_at (if lt then (code, value) ∷ e ∷ entries else if same then (code, value) ∷ entries else e ∷ with_entry entries code value) number ≡ entry_at (e ∷ entries) number
+    decide true same is later = ap (λ b. cond b (Some value) (entry_at (e ∷ entries) number)) (ne_eqb number (place_of code) differs)
+    decide false true is later =
+        let other : nat_eq number (place_in e) ≡ false = ne_eqb number (place_in e) (λ here. differs (here ∙ sym (eqb-true (place_of code) (place_in e) is))) in
+        ap (λ b. cond b (Some value) (entry_at entries number)) (ne_eqb number (place_of code) differs) ∙ sym (ap (λ b. cond b (Some e.1) (entry_at entries number)) other)
+    decide false false is later = ap (λ found. cond (has_number number e.0) (Some e.1) found) later
 
   module _ (limit : ℕ) (entries : List (ExprId × A)) where
     -- an entry at the limit or behind it changes nothing below
@@ -56,6 +61,21 @@ no_dangling_entered old code usages within was = record {
     sources = was.maps.sources;
     capture_sources = was.maps.capture_sources;
     captures = holds_entry code usages (length old.exprs) old.format_args_to_captures within was.maps.captures;
+    mappings = was.maps.mappings;
+  };
+}
+
+-- a store with a place in a template for an expression of it has no dangling ids where it had none
+pub no_dangling_captured : (old : ExpressionStore) (id : ExprId) (source : InFile CaptureSource) → place_of id < length old.exprs → NoDanglingIds old →
+    NoDanglingIds (record old { implicit_capture_to_source = with_entry old.implicit_capture_to_source id source })
+no_dangling_captured old id source within was = record {
+  whole = was.whole;
+  patterns = was.patterns;
+  definitions = was.definitions;
+  maps = record {
+    sources = was.maps.sources;
+    capture_sources = holds_entry id source (length old.exprs) old.implicit_capture_to_source within was.maps.capture_sources;
+    captures = was.maps.captures;
     mappings = was.maps.mappings;
   };
 }

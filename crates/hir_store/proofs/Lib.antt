@@ -1,6 +1,7 @@
 pub mod Lists
 pub mod Nodes
 pub mod Unfolds
+pub mod Entries
 pub mod Maps
 pub mod Entered
 pub mod Grown

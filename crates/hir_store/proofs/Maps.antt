@@ -1,14 +1,14 @@
 -- What the maps of a store hold where it grows.
 use Rattle.std.proofs.Common.{◌≡◌, ◌≢◌, ℕ, ◌<◌, ◌≤◌, ◌⊎◌, inl, inr, List, length, Option, Some, refl, sym, ap, ◌∙◌, arith}
-use Rattle.la_arena.specs.Map.{slot_at, with_slot}
 use Rattle.std.proofs.lemmas.Bool.{cases_eq}
-use Rattle.la_arena.proofs.MapLemmas.{Updates-with_slot}
 use Rattle.sym_core.specs.declared.files.InFile.{InFile}
 use Rattle.sym_core.specs.declared.files.AstPtr.{AstPtr}
 use Rattle.hir_store.specs.declared.ids.ExprId.{ExprId}
 use Rattle.hir_store.specs.declared.store.ExpressionStore.{ExpressionStore}
 use Rattle.hir_store.specs.Unfolding.{place_of}
-use Rattle.hir_store.specs.Sources.{entry_at, HoldsBelow, SameBelow, NoDanglingKeys, SameAtOlder, SameMaps, EntersSource}
+use Rattle.hir_store.specs.Entries.{entry_at, with_entry}
+use Rattle.hir_store.specs.Sources.{HoldsBelow, SameBelow, NoDanglingKeys, SameAtOlder, SameMaps, EntersSource}
+use Rattle.hir_store.proofs.Entered.{entered_others}
 
 module _ {A M : Type 0} (at : M → ℕ → Option A) (limit : ℕ) (old new : M) (same : new ≡ old) where
   -- a map that stays as it was
@@ -22,32 +22,34 @@ module _ {A : Type 0} (limit : ℕ) where
   same_below_on : (later : ℕ) (a b c : ℕ → Option A) → limit ≤ later → SameBelow limit a b → SameBelow later b c → SameBelow limit a c
   same_below_on later a b c le first second number lt = second number (omega (arith, le, lt)) ∙ first number lt
 
-  -- what is written at the limit changes nothing below it
-  same_below_write : (old new : List (Option A)) (place : ℕ) (slot : Option A) → place ≡ limit → new ≡ with_slot old place slot → SameBelow limit (slot_at old) (slot_at new)
-  same_below_write old new place slot at is number lt =
-      let other : number ≢ place = λ e. omega (arith, e, at, lt) in
-      (Updates-with_slot old new place slot is).others number other
+  module _ (old new : List (ExprId × A)) (id : ExprId) (value : A) (is : new ≡ with_entry old id value) where
+    others_with : (number : ℕ) → number ≢ place_of id → entry_at new number ≡ entry_at old number
+    others_with number differs = ap (λ entries. entry_at entries number) is ∙ entered_others id value old number differs
 
-  holds_write : (later : ℕ) (old new : List (Option A)) (place : ℕ) (slot : Option A) → limit ≤ later → place < later → new ≡ with_slot old place slot → HoldsBelow limit (slot_at old) → HoldsBelow later (slot_at new)
-  holds_write later old new place slot le lt is held number value there = decide (cases_eq number place) where
-    decide : (number ≡ place) ⊎ (number ≢ place) → number < later
-    decide (inl same) = omega (arith, same, lt)
-    decide (inr differs) = omega (arith, le, held number value (sym ((Updates-with_slot old new place slot is).others number differs) ∙ there))
+    -- what is entered at the limit changes nothing below it
+    same_below_entry : place_of id ≡ limit → SameBelow limit (entry_at old) (entry_at new)
+    same_below_entry at number lt = others_with number (λ e. omega (arith, e, at, lt))
+
+    holds_with : (later : ℕ) → limit ≤ later → place_of id < later → HoldsBelow limit (entry_at old) → HoldsBelow later (entry_at new)
+    holds_with later le lt held number known there = decide (cases_eq number (place_of id)) where
+      decide : (number ≡ place_of id) ⊎ (number ≢ place_of id) → number < later
+      decide (inl same) = omega (arith, same, lt)
+      decide (inr differs) = omega (arith, le, held number known (sym (others_with number differs) ∙ there))
 
 module _ (old new : ExpressionStore) where
   -- maps that stay as they were
   pub same_at_older : SameMaps old new → SameAtOlder old new
   same_at_older maps = record {
-    sources = same_below slot_at (length old.exprs) old.expr_map_back new.expr_map_back maps.sources;
-    capture_sources = same_below slot_at (length old.exprs) old.implicit_capture_to_source new.implicit_capture_to_source maps.capture_sources;
+    sources = same_below entry_at (length old.exprs) old.expr_map_back new.expr_map_back maps.sources;
+    capture_sources = same_below entry_at (length old.exprs) old.implicit_capture_to_source new.implicit_capture_to_source maps.capture_sources;
     captures = same_below entry_at (length old.exprs) old.format_args_to_captures new.format_args_to_captures maps.captures;
     mappings = same_below entry_at (length old.exprs) old.asm_to_captures new.asm_to_captures maps.mappings;
   }
 
   pub maps_still : SameMaps old new → length old.exprs ≤ length new.exprs → NoDanglingKeys old → NoDanglingKeys new
   maps_still maps le held = record {
-    sources = holds_later slot_at (length old.exprs) old.expr_map_back new.expr_map_back maps.sources (length new.exprs) le held.sources;
-    capture_sources = holds_later slot_at (length old.exprs) old.implicit_capture_to_source new.implicit_capture_to_source maps.capture_sources (length new.exprs) le held.capture_sources;
+    sources = holds_later entry_at (length old.exprs) old.expr_map_back new.expr_map_back maps.sources (length new.exprs) le held.sources;
+    capture_sources = holds_later entry_at (length old.exprs) old.implicit_capture_to_source new.implicit_capture_to_source maps.capture_sources (length new.exprs) le held.capture_sources;
     captures = holds_later entry_at (length old.exprs) old.format_args_to_captures new.format_args_to_captures maps.captures (length new.exprs) le held.captures;
     mappings = holds_later entry_at (length old.exprs) old.asm_to_captures new.asm_to_captures maps.mappings (length new.exprs) le held.mappings;
   }
@@ -56,16 +58,16 @@ module _ (old new : ExpressionStore) where
     -- a source entered at an expression that was not there
     pub older_with_source : place_of id ≡ length old.exprs → SameAtOlder old new
     older_with_source at = record {
-      sources = same_below_write (length old.exprs) old.expr_map_back new.expr_map_back (place_of id) (Some ptr) at enters.sources;
-      capture_sources = same_below slot_at (length old.exprs) old.implicit_capture_to_source new.implicit_capture_to_source enters.capture_sources;
+      sources = same_below_entry (length old.exprs) old.expr_map_back new.expr_map_back id ptr enters.sources at;
+      capture_sources = same_below entry_at (length old.exprs) old.implicit_capture_to_source new.implicit_capture_to_source enters.capture_sources;
       captures = same_below entry_at (length old.exprs) old.format_args_to_captures new.format_args_to_captures enters.captures;
       mappings = same_below entry_at (length old.exprs) old.asm_to_captures new.asm_to_captures enters.mappings;
     }
 
     pub maps_with_source : length old.exprs ≤ length new.exprs → place_of id < length new.exprs → NoDanglingKeys old → NoDanglingKeys new
     maps_with_source le lt held = record {
-      sources = holds_write (length old.exprs) (length new.exprs) old.expr_map_back new.expr_map_back (place_of id) (Some ptr) le lt enters.sources held.sources;
-      capture_sources = holds_later slot_at (length old.exprs) old.implicit_capture_to_source new.implicit_capture_to_source enters.capture_sources (length new.exprs) le held.capture_sources;
+      sources = holds_with (length old.exprs) old.expr_map_back new.expr_map_back id ptr enters.sources (length new.exprs) le lt held.sources;
+      capture_sources = holds_later entry_at (length old.exprs) old.implicit_capture_to_source new.implicit_capture_to_source enters.capture_sources (length new.exprs) le held.capture_sources;
       captures = holds_later entry_at (length old.exprs) old.format_args_to_captures new.format_args_to_captures enters.captures (length new.exprs) le held.captures;
       mappings = holds_later entry_at (length old.exprs) old.asm_to_captures new.asm_to_captures enters.mappings (length new.exprs) le held.mappings;
     }
@@ -75,8 +77,8 @@ older_self store = same_at_older store store (record { sources = refl; capture_s
 
 pub older_on : (a b c : ExpressionStore) → length a.exprs ≤ length b.exprs → SameAtOlder a b → SameAtOlder b c → SameAtOlder a c
 older_on a b c le first second = record {
-  sources = same_below_on (length a.exprs) (length b.exprs) (slot_at a.expr_map_back) (slot_at b.expr_map_back) (slot_at c.expr_map_back) le first.sources second.sources;
-  capture_sources = same_below_on (length a.exprs) (length b.exprs) (slot_at a.implicit_capture_to_source) (slot_at b.implicit_capture_to_source) (slot_at c.implicit_capture_to_source) le first.capture_sources second.capture_sources;
+  sources = same_below_on (length a.exprs) (length b.exprs) (entry_at a.expr_map_back) (entry_at b.expr_map_back) (entry_at c.expr_map_back) le first.sources second.sources;
+  capture_sources = same_below_on (length a.exprs) (length b.exprs) (entry_at a.implicit_capture_to_source) (entry_at b.implicit_capture_to_source) (entry_at c.implicit_capture_to_source) le first.capture_sources second.capture_sources;
   captures = same_below_on (length a.exprs) (length b.exprs) (entry_at a.format_args_to_captures) (entry_at b.format_args_to_captures) (entry_at c.format_args_to_captures) le first.captures second.captures;
   mappings = same_below_on (length a.exprs) (length b.exprs) (entry_at a.asm_to_captures) (entry_at b.asm_to_captures) (entry_at c.asm_to_captures) le first.mappings second.mappings;
 }

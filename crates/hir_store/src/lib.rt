@@ -5,9 +5,9 @@
 
 mod asm;
 mod asm_options;
-mod code_map;
 mod expr;
 mod expr_ids;
+mod expr_map;
 mod ids;
 mod lang_item;
 mod pat;
@@ -17,9 +17,9 @@ mod store;
 
 pub use asm::{AsmOperand, AsmRow, InlineAsm, InlineAsmKind, InlineAsmRegOrRegClass};
 pub use asm_options::AsmOptions;
-pub use code_map::CodeMap;
 pub use expr::{Expr, Literal, Statement};
 pub use expr_ids::ExprIds;
+pub use expr_map::ExprMap;
 pub use ids::{BindingId, ExprId, PatId};
 pub use lang_item::{LangFn, LangItem, LangItems};
 pub use pat::{Binding, Pat};

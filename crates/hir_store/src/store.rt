@@ -1,7 +1,7 @@
 ghost use Rattle.std.specs.Prelude.{◌≡◌, ◌↔◌, ◌<◌, ◌⊎◌, [], Some, None, length, IsTrue, IfOk, OnErr};
 
-use crate::{AsmRow, Binding, BindingId, CaptureSource, CodeMap, Expr, ExprId, Pat, PatId};
-use la_arena::{Arena, ArenaError, ArenaMap, Idx};
+use crate::{AsmRow, Binding, BindingId, CaptureSource, Expr, ExprId, ExprMap, Pat, PatId};
+use la_arena::{Arena, ArenaError};
 use sqlite_items::Items;
 use std::alloc::{AllocError, Global};
 use sym_core::{AstPtr, InFile, Name, TextRange};
@@ -16,8 +16,8 @@ use sym_core::{AstPtr, InFile, Name, TextRange};
 /// let leaf = store.alloc_expr(Expr::Leaf(7), source(5))?;
 /// let reference = store.alloc_expr_desugared(Expr::Ref(leaf))?;
 /// assert!(rt; matches!(store.exprs[reference.idx()], Expr::Ref(_)));
-/// assert_eq!(rt; store.expr_map_back.get(leaf.idx()), Some(&source(5)));
-/// assert!(rt; !store.expr_map_back.contains_idx(reference.idx()));
+/// assert_eq!(rt; store.expr_map_back.get(leaf), Some(&source(5)));
+/// assert!(rt; store.expr_map_back.get(reference).is_none());
 /// ```
 #[derive(Debug, Drop)]
 pub struct ExpressionStore {
@@ -28,13 +28,13 @@ pub struct ExpressionStore {
     /// What the patterns bind.
     pub bindings: Arena<Binding>,
     /// The source of each expression that stands in one.
-    pub expr_map_back: ArenaMap<Idx<Expr>, InFile<AstPtr>>,
+    pub expr_map_back: ExprMap<InFile<AstPtr>>,
     /// For each expression that a format call captures, where the call names it.
-    pub implicit_capture_to_source: ArenaMap<Idx<Expr>, InFile<CaptureSource>>,
+    pub implicit_capture_to_source: ExprMap<InFile<CaptureSource>>,
     /// For each format call, the ranges of its literal that name a captured variable, with the names.
-    pub format_args_to_captures: CodeMap<Items<(TextRange, Name)>>,
+    pub format_args_to_captures: ExprMap<Items<(TextRange, Name)>>,
     /// For each call of inline assembly, which operands its templates put, template by template.
-    pub asm_to_captures: CodeMap<Items<AsmRow>>,
+    pub asm_to_captures: ExprMap<Items<AsmRow>>,
 }
 
 impl ExpressionStore {
@@ -54,10 +54,10 @@ impl ExpressionStore {
             exprs: Arena::new(alloc),
             pats: Arena::new(alloc),
             bindings: Arena::new(alloc),
-            expr_map_back: ArenaMap::new(alloc),
-            implicit_capture_to_source: ArenaMap::new(alloc),
-            format_args_to_captures: CodeMap::new(alloc),
-            asm_to_captures: CodeMap::new(alloc),
+            expr_map_back: ExprMap::new(alloc),
+            implicit_capture_to_source: ExprMap::new(alloc),
+            format_args_to_captures: ExprMap::new(alloc),
+            asm_to_captures: ExprMap::new(alloc),
         }
     }
 
@@ -78,8 +78,8 @@ impl ExpressionStore {
         ensures kept { NoDanglingIds self.old → IsTrue (is_whole (tree_over self.old expr)) → NoDanglingIds self.new }
     {
         let id = self.alloc_expr_desugared(expr)?;
-        match self.expr_map_back.insert(id.idx(), ptr) {
-            Ok(_) => Ok(id),
+        match self.expr_map_back.insert(id, ptr) {
+            Ok(()) => Ok(id),
             Err(_) => Err(ArenaError::Memory(AllocError)),
         }
     }
@@ -199,8 +199,8 @@ mod tests {
         let leaf = store.alloc_expr(Expr::Leaf(7), source(5))?;
         let reference = store.alloc_expr_desugared(Expr::Ref(leaf))?;
         assert!(rt; matches!(store.exprs[reference.idx()], Expr::Ref(_)));
-        assert_eq!(rt; store.expr_map_back.get(leaf.idx()), Some(&source(5)));
-        assert!(rt; !store.expr_map_back.contains_idx(reference.idx()));
+        assert_eq!(rt; store.expr_map_back.get(leaf), Some(&source(5)));
+        assert!(rt; store.expr_map_back.get(reference).is_none());
         Ok(())
     }
 

@@ -13,7 +13,7 @@ use Rattle.hir_store.specs.declared.ids.ExprId.{ExprId}
 use Rattle.hir_store.specs.declared.store.ExpressionStore.{ExpressionStore}
 use Rattle.hir_store.specs.Tree.{Tree, Trees, Steps, Bad, Missing, Leaf, Path, LangPath, Text, Bytes, Ref, Tuple, Field, Array, Call, Block, Empty, More, End, Tail, Let, Nameless, Do, InlineAsm, Operands, NoOperand, Operand}
 use Rattle.hir_store.specs.Unfolding.{place_of, tree_at}
-use Rattle.hir_store.specs.Sources.{entry_at}
+use Rattle.hir_store.specs.Entries.{entry_at}
 use Rattle.printer.specs.Assembly.{assembly_text, operand_text}
 use Rattle.printer.specs.Mapping.{map_lines}
 use Rattle.ra_cfg.specs.declared.cfg_expr.CfgExpr.{CfgExpr}

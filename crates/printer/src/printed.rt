@@ -5,7 +5,7 @@ ghost use Rattle.hir_store.specs.Store.{NoDanglingIds};
 ghost use Rattle.hir_lower.specs.Lowered.{AreInStore};
 ghost use Rattle.printer.specs.Printed.{reason_line, hint_line, hint_lines, use_line, use_lines_of, use_lines, code_lines, printed};
 ghost use Rattle.printer.specs.Mapping.{map_lines};
-ghost use Rattle.hir_store.specs.Sources.{entry_at};
+ghost use Rattle.hir_store.specs.Entries.{entry_at};
 ghost use Rattle.std.specs.Option.{option_copied};
 ghost use Rattle.std.specs.Fmt.{decimal};
 
