@@ -133,6 +133,8 @@ module _ (start now new : EnableHints) (come : HasCome start now) (along : IsAlo
   -- the next conjunction gives a hint
   pub gives_here : (diff : Diff) → Some diff ≡ hint_if new.opts.now (chosen (form new.expr.now false) new.choices.items) → GivesHint start diff new
   gives_here diff e = record {
+    at = goes.state;
+    here = e;
     standing = goes.standing;
     next = come.left ∙ left_step now new along goes ∙ hint_next new.opts.now (chosen (form new.expr.now false) new.choices.items) (map (chosen (form new.expr.now false)) (ahead_of new)) diff e;
     fewer = let h : most_left new < most_left now = fewer now new goes in let k : most_left now ≤ most_left start = come.most in omega arith;

@@ -5,7 +5,8 @@ use Rattle.cfg_dnf.specs.declared.enable_hints.WalkState.{WalkState}
 use Rattle.cfg_dnf.specs.declared.enable_hints.WalkState.TheVariants.{Start, At, Ended}
 use Rattle.cfg_dnf.specs.declared.enable_hints.EnableHints.{EnableHints}
 use Rattle.cfg_dnf.specs.declared.literal.Literal.{Literal}
-use Rattle.cfg_dnf.specs.Form.{Form, form, first, next}
+use Rattle.cfg_dnf.specs.Form.{Form, form, first, next, chosen}
+use Rattle.cfg_dnf.specs.Hints.{hint_if}
 use Rattle.cfg_dnf.specs.Walking.{ahead_of, left_of, IsStanding, HasEnded}
 
 -- the choices of the next conjunction, if there is one
@@ -45,8 +46,10 @@ most_by Ended n = 0
 abbrev pub most_left : EnableHints → ℕ
 most_left walk = most_by walk.state (length (ahead_of walk))
 
--- the next hint is given, and those behind it are left
+-- the next hint is given, the walk stands at its conjunction, and the hints behind it are left
 pub record GivesHint (old : EnableHints) (hint : Diff) (new : EnableHints) : Type 0 where
+  pub at : new.state ≡ At
+  pub here : Some hint ≡ hint_if new.opts.now (chosen (form new.expr.now false) new.choices.items)
   pub standing : IsStanding new
   pub next : left_of old ≡ hint ∷ left_of new
   pub fewer : most_left new < most_left old

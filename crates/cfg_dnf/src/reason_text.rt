@@ -1,44 +1,9 @@
-ghost use Rattle.std.specs.Prelude.{map, codes};
-ghost use Rattle.std.specs.List.{flat_map};
+ghost use Rattle.std.specs.Prelude.{codes};
 ghost use Rattle.std.specs.Fmt.{WritesOnOk};
-ghost use Rattle.ra_cfg.specs.Text.{atom_text, after_comma, more_atoms, atoms_text};
 ghost use Rattle.cfg_dnf.specs.ReasonText.{verb, clause_text, between, reason_text};
 
-use ra_cfg::CfgAtom;
+use ra_cfg::{CfgAtom, write_atoms};
 use std::fmt;
-use std::fmt::{Display, Write};
-
-// Writes atoms, each behind `, `.
-fn write_between<W: fmt::Write>(atoms: &[CfgAtom], f: &mut fmt::Formatter<W>) -> fmt::Result
-    ensures { WritesOnOk W.write_str_gives f.old result (flat_map after_comma (map atom_text atoms.now)) f.new }
-{
-    for atom in atoms {
-        write!(f, ", {atom}")?;
-    }
-    Ok(())
-}
-
-// Writes atoms behind a first one: the last behind ` and `, each of the others behind `, `.
-fn write_more<W: fmt::Write>(atoms: &[CfgAtom], f: &mut fmt::Formatter<W>) -> fmt::Result
-    ensures { WritesOnOk W.write_str_gives f.old result (more_atoms atoms.now) f.new }
-{
-    let Some((last, between)) = atoms.split_last() else {
-        return Ok(());
-    };
-    write_between(between, f)?;
-    write!(f, " and {last}")
-}
-
-// Writes atoms, with `, ` between and ` and ` in front of the last.
-fn write_atoms<W: fmt::Write>(atoms: &[CfgAtom], f: &mut fmt::Formatter<W>) -> fmt::Result
-    ensures { WritesOnOk W.write_str_gives f.old result (atoms_text atoms.now) f.new }
-{
-    let Some((first, rest)) = atoms.split_first() else {
-        return Ok(());
-    };
-    first.fmt(f)?;
-    write_more(rest, f)
-}
 
 // Writes ` is ` for one atom, and ` are ` for more.
 fn write_verb<W: fmt::Write>(atoms: &[CfgAtom], f: &mut fmt::Formatter<W>) -> fmt::Result

@@ -1,10 +1,10 @@
 -- What a refusal is told by, and what it comes of.
-use Rattle.std.specs.Prelude.{true, ◌≡◌, ◌≢◌, ℕ, ◌≤◌, ◌<◌, false, List, length, Err}
+use Rattle.std.specs.Prelude.{true, ◌≡◌, ◌≢◌, ℕ, ◌≤◌, ◌<◌, List, length, Err, Some, None}
 use Rattle.std.proofs.Common.{sym, ap, subst, ◌∙◌, ◌+◌, inl, inr, arith}
-use Rattle.std.proofs.lemmas.Bool.{true≢false}
+use Rattle.std.proofs.lemmas.Option.{same_Some, none-some}
 use Rattle.causes.specs.Causes.{Rose}
 use Rattle.streams.specs.Streams.{SourceState, SinkState}
-use Rattle.streams.specs.ReadWrite.{ReadsAll, TakesCount}
+use Rattle.streams.specs.ReadWrite.{TakesCount}
 use Rattle.script.specs.Limit.{max_script_len}
 use Rattle.script.specs.declared.script.ScriptError.{ScriptError}
 use Rattle.script.specs.declared.script.ScriptError.TheVariants as error
@@ -19,8 +19,11 @@ use Rattle.hir_store.specs.Store.{IsEmptyStore}
 use Rattle.hir_build.specs.Building.{Outgrows}
 use Rattle.hir_lower.specs.Lowered.{AreMost, most_lets}
 use Rattle.hir_lower.proofs.Outcomes.{lets_fewer}
-use Rattle.cfgfmt.specs.Session.{IsNew, script_around}
-use Rattle.cfgfmt.specs.Refusal.{HasRead, IsFaulty, OutgrowsArena, AreMany, is_reading_form, status_of, line_of, IsJustified, IsReadRefusal, IsScriptRefusal, IsLowerRefusal, refusal_of}
+use Rattle.cfgfmt.specs.Session.{IsNew, Gets, script_around}
+use Rattle.cfgfmt.specs.declared.command.Command.{Command}
+use Rattle.cfgfmt.specs.declared.command.Command.TheVariants.{Run, Generate}
+use Rattle.cfgfmt.specs.Command.{command_of, Asks}
+use Rattle.cfgfmt.specs.Refusal.{HasInput, IsFaulty, OutgrowsArena, AreMany, status_of, line_of, IsJustified, IsInputRefusal, IsScriptRefusal, IsLowerRefusal, refusal_of}
 use Rattle.cfgfmt.specs.Run.{IsSent, IsTold, Refuses, TellsWhole, TellsFront, is_status}
 
 -- bytes that are no script are refused because of the bytes
@@ -43,37 +46,54 @@ many_outgrow contents store empty full most are = by_arena (full most are)
     by_arena (inr (inl pats)) = let fewer = lets_fewer contents.options (script_around contents) contents.calls most are in omega (arith, pats, ap length empty.pats, fewer)
     by_arena (inr (inr bindings)) = let fewer = lets_fewer contents.options (script_around contents) contents.calls most are in omega (arith, bindings, ap length empty.bindings, fewer)
 
-module _ (words : List (List ℕ)) (old new : SourceState) (right : is_reading_form words ≡ true) where
-  -- a refusal to read the source is justified
-  pub read_justified : (refusal : Refusal) → IsReadRefusal old new refusal → IsJustified words old new refusal
-  read_justified Read found = record { words_are = right; found = found }
-  read_justified Memory found = record { words_are = right; found = found }
-  read_justified TooLong found = record { words_are = right; found = found }
-  read_justified Usage found = absurd found
-  read_justified (Syntax line) found = absurd found
-  read_justified ArenaFull found = absurd found
+-- getting the bytes of a script counts no fault
+pub got_calmly : (command : Command) (old new : SourceState) (bytes : List ℕ) → Gets command old new bytes → new.faults ≡ old.faults
+got_calmly Run old new bytes came = came.calm
+got_calmly (Generate n) old new bytes came = ap (λ (s : SourceState). s.faults) came.1
 
-  -- and so is a refusal to read its bytes
-  pub script_justified : (bytes : List ℕ) → ReadsAll old new bytes → (refusal : Refusal) → IsScriptRefusal bytes refusal → IsJustified words old new refusal
-  script_justified bytes read (Syntax line) faulty = record { words_are = right; found = record { bytes = bytes; read = read; holds = faulty } }
-  script_justified bytes read Memory found = record { words_are = right; found = read.calm }
-  script_justified bytes read Usage found = absurd found
-  script_justified bytes read Read found = absurd found
-  script_justified bytes read ArenaFull found = absurd found
-  script_justified bytes read TooLong found = absurd found
+module _ (words : List (List ℕ)) (old new : SourceState) (command : Command) (asked : command_of words ≡ Some command) where
+  -- a refusal to get the bytes of a script is justified
+  pub input_justified : (refusal : Refusal) → IsInputRefusal command old new refusal → IsJustified words old new refusal
+  input_justified Read found = record { command = command; asked = asked; holds = found }
+  input_justified Memory found = record { command = command; asked = asked; holds = found }
+  input_justified TooLong found = record { command = command; asked = asked; holds = found }
+  input_justified Usage found = absurd found
+  input_justified (Syntax line) found = absurd found
+  input_justified ArenaFull found = absurd found
 
-  -- and one to lower the calls of its script
-  pub lower_justified : (bytes : List ℕ) → ReadsAll old new bytes → length bytes ≤ max_script_len → (contents : Contents) → IsScript bytes contents
-      → (refusal : Refusal) → IsLowerRefusal (AreMany contents) refusal → IsJustified words old new refusal
-  lower_justified bytes read fits contents script Memory found = record { words_are = right; found = read.calm }
-  lower_justified bytes read fits contents script ArenaFull many =
-      record { words_are = right; found = record { bytes = bytes; read = read; holds = record { fits = fits; contents = contents; script = script; many = many } } }
-  lower_justified bytes read fits contents script Usage found = absurd found
-  lower_justified bytes read fits contents script (Syntax line) found = absurd found
-  lower_justified bytes read fits contents script Read found = absurd found
-  lower_justified bytes read fits contents script TooLong found = absurd found
+  module _ (bytes : List ℕ) (came : Gets command old new bytes) where
+    -- so is want of memory behind that
+    pub memory_justified : IsJustified words old new Memory
+    memory_justified = record { command = command; asked = asked; holds = got_calmly command old new bytes came }
+
+    -- a refusal to read the bytes
+    pub script_justified : (refusal : Refusal) → IsScriptRefusal bytes refusal → IsJustified words old new refusal
+    script_justified (Syntax line) faulty = record { command = command; asked = asked; holds = record { bytes = bytes; came = came; holds = faulty } }
+    script_justified Memory found = memory_justified
+    script_justified Usage found = absurd found
+    script_justified Read found = absurd found
+    script_justified ArenaFull found = absurd found
+    script_justified TooLong found = absurd found
+
+    -- and one to lower the calls of their script
+    pub lower_justified : length bytes ≤ max_script_len → (contents : Contents) → IsScript bytes contents
+        → (refusal : Refusal) → IsLowerRefusal (AreMany contents) refusal → IsJustified words old new refusal
+    lower_justified fits contents script Memory found = memory_justified
+    lower_justified fits contents script ArenaFull many = record {
+      command = command;
+      asked = asked;
+      holds = record { bytes = bytes; came = came; holds = record { fits = fits; contents = contents; script = script; many = many } };
+    }
+    lower_justified fits contents script Usage found = absurd found
+    lower_justified fits contents script (Syntax line) found = absurd found
+    lower_justified fits contents script Read found = absurd found
+    lower_justified fits contents script TooLong found = absurd found
 
 module _ (words : List (List ℕ)) (old new : SourceState) (sink sink_now : SinkState) (session : Session) (still : IsNew session) (result : ℕ) where
+  -- where a broken item is to be told, memory may be wanted for its line
+  for_memory : (line : ℕ) → IsJustified words old new (Syntax line) → IsJustified words old new Memory
+  for_memory line cause = record { command = cause.command; asked = cause.asked; holds = got_calmly cause.command old new cause.holds.bytes cause.holds.came }
+
   -- what was sent with the status of a refusal was written whole, where the status is not 5
   sent_whole : (refusal : Refusal) → IsJustified words old new refusal → result ≢ 5 → IsSent (status_of refusal) result sink sink_now (line_of refusal)
       → Refuses words old new session (TellsWhole result sink sink_now)
@@ -84,7 +104,7 @@ module _ (words : List (List ℕ)) (old new : SourceState) (sink sink_now : Sink
   pub told_whole : (refusal : Refusal) → IsJustified words old new refusal → result ≢ 5 → IsTold refusal result sink sink_now
       → Refuses words old new session (TellsWhole result sink sink_now)
   told_whole (Syntax line) cause whole (inl sent) = sent_whole (Syntax line) cause whole sent
-  told_whole (Syntax line) cause whole (inr sent) = sent_whole Memory (record { words_are = cause.words_are; found = cause.found.read.calm }) whole sent
+  told_whole (Syntax line) cause whole (inr sent) = sent_whole Memory (for_memory line cause) whole sent
   told_whole Usage cause whole sent = sent_whole Usage cause whole sent
   told_whole Read cause whole sent = sent_whole Read cause whole sent
   told_whole Memory cause whole sent = sent_whole Memory cause whole sent
@@ -101,49 +121,59 @@ module _ (words : List (List ℕ)) (old new : SourceState) (sink sink_now : Sink
   pub told_front : (refusal : Refusal) → IsJustified words old new refusal → result ≡ 5 → IsTold refusal result sink sink_now
       → Refuses words old new session (TellsFront sink sink_now)
   told_front (Syntax line) cause five (inl sent) = sent_front (Syntax line) cause five sent (λ e. omega (arith, e))
-  told_front (Syntax line) cause five (inr sent) = sent_front Memory (record { words_are = cause.words_are; found = cause.found.read.calm }) five sent (λ e. omega (arith, e))
+  told_front (Syntax line) cause five (inr sent) = sent_front Memory (for_memory line cause) five sent (λ e. omega (arith, e))
   told_front Usage cause five sent = sent_front Usage cause five sent (λ e. omega (arith, e))
   told_front Read cause five sent = sent_front Read cause five sent (λ e. omega (arith, e))
   told_front Memory cause five sent = sent_front Memory cause five sent (λ e. omega (arith, e))
   told_front ArenaFull cause five sent = sent_front ArenaFull cause five sent (λ e. omega (arith, e))
   told_front TooLong cause five sent = sent_front TooLong cause five sent (λ e. omega (arith, e))
 
+-- a command that is asked for is the only one
+one_command : (words : List (List ℕ)) (command other : Command) → command_of words ≡ Some command → command_of words ≡ Some other → command ≡ other
+one_command words command other asked also = same_Some command other (sym asked ∙ also)
+
+-- words that ask for nothing ask for no command
+no_command : (words : List (List ℕ)) (command : Command) → command_of words ≡ None → command_of words ≡ Some command → ⊥
+no_command words command none asked = none-some command (sym none ∙ asked)
+
 module _ (words : List (List ℕ)) (old new : SourceState) (result : ℕ) where
   -- what a status says of the words and of the source, where it is that of a refusal with its cause
-  pub usage_by : (refusal : Refusal) → IsJustified words old new refusal → result ≡ status_of refusal → result ≡ 2 → is_reading_form words ≡ false
-  usage_by Usage cause is two = cause.words_are
+  pub usage_by : (refusal : Refusal) → IsJustified words old new refusal → result ≡ status_of refusal → result ≡ 2 → command_of words ≡ None
+  usage_by Usage cause is two = cause.none
   usage_by (Syntax line) cause is two = absurd (omega (arith, is, two))
   usage_by Read cause is two = absurd (omega (arith, is, two))
   usage_by Memory cause is two = absurd (omega (arith, is, two))
   usage_by ArenaFull cause is two = absurd (omega (arith, is, two))
   usage_by TooLong cause is two = absurd (omega (arith, is, two))
 
-  pub syntax_by : (refusal : Refusal) → IsJustified words old new refusal → result ≡ status_of refusal → result ≡ 3 → (line : ℕ) × HasRead old new (λ bytes. IsFaulty bytes line)
-  syntax_by (Syntax line) cause is three = (line, cause.found)
+  pub syntax_by : (refusal : Refusal) → IsJustified words old new refusal → result ≡ status_of refusal → result ≡ 3
+      → Asks words (λ command. (line : ℕ) × HasInput command old new (λ bytes. IsFaulty bytes line))
+  syntax_by (Syntax line) cause is three = record { command = cause.command; asked = cause.asked; holds = (line, cause.holds) }
   syntax_by Usage cause is three = absurd (omega (arith, is, three))
   syntax_by Read cause is three = absurd (omega (arith, is, three))
   syntax_by Memory cause is three = absurd (omega (arith, is, three))
   syntax_by ArenaFull cause is three = absurd (omega (arith, is, three))
   syntax_by TooLong cause is three = absurd (omega (arith, is, three))
 
-  pub read_by : (refusal : Refusal) → IsJustified words old new refusal → result ≡ status_of refusal → result ≡ 4 → Rose old.faults new.faults
-  read_by Read cause is four = cause.found
+  pub read_by : (refusal : Refusal) → IsJustified words old new refusal → result ≡ status_of refusal → result ≡ 4 → (command_of words ≡ Some Run) × Rose old.faults new.faults
+  read_by Read cause is four = (cause.asked ∙ ap (λ c. Some c) cause.holds.0, cause.holds.1)
   read_by Usage cause is four = absurd (omega (arith, is, four))
   read_by (Syntax line) cause is four = absurd (omega (arith, is, four))
   read_by Memory cause is four = absurd (omega (arith, is, four))
   read_by ArenaFull cause is four = absurd (omega (arith, is, four))
   read_by TooLong cause is four = absurd (omega (arith, is, four))
 
-  pub full_by : (refusal : Refusal) → IsJustified words old new refusal → result ≡ status_of refusal → result ≡ 8 → HasRead old new OutgrowsArena
-  full_by ArenaFull cause is eight = cause.found
+  pub full_by : (refusal : Refusal) → IsJustified words old new refusal → result ≡ status_of refusal → result ≡ 8 → Asks words (λ command. HasInput command old new OutgrowsArena)
+  full_by ArenaFull cause is eight = cause
   full_by Usage cause is eight = absurd (omega (arith, is, eight))
   full_by (Syntax line) cause is eight = absurd (omega (arith, is, eight))
   full_by Read cause is eight = absurd (omega (arith, is, eight))
   full_by Memory cause is eight = absurd (omega (arith, is, eight))
   full_by TooLong cause is eight = absurd (omega (arith, is, eight))
 
-  pub too_long_by : (refusal : Refusal) → IsJustified words old new refusal → result ≡ status_of refusal → result ≡ 9 → TakesCount old new (max_script_len + 1)
-  too_long_by TooLong cause is nine = cause.found.0
+  pub too_long_by : (refusal : Refusal) → IsJustified words old new refusal → result ≡ status_of refusal → result ≡ 9
+      → (command_of words ≡ Some Run) × TakesCount old new (max_script_len + 1)
+  too_long_by TooLong cause is nine = (cause.asked ∙ ap (λ c. Some c) cause.holds.0, cause.holds.1.0)
   too_long_by Usage cause is nine = absurd (omega (arith, is, nine))
   too_long_by (Syntax line) cause is nine = absurd (omega (arith, is, nine))
   too_long_by Read cause is nine = absurd (omega (arith, is, nine))
@@ -152,19 +182,19 @@ module _ (words : List (List ℕ)) (old new : SourceState) (result : ℕ) where
 
   pub calm_by : (refusal : Refusal) → IsJustified words old new refusal → result ≡ status_of refusal → result ≢ 4 → new.faults ≡ old.faults
   calm_by Read cause is other = absurd (other is)
-  calm_by Usage cause is other = ap (λ (s : SourceState). s.faults) cause.found
-  calm_by (Syntax line) cause is other = cause.found.read.calm
-  calm_by Memory cause is other = cause.found
-  calm_by ArenaFull cause is other = cause.found.read.calm
-  calm_by TooLong cause is other = cause.found.1
+  calm_by Usage cause is other = ap (λ (s : SourceState). s.faults) cause.unread
+  calm_by (Syntax line) cause is other = got_calmly cause.command old new cause.holds.bytes cause.holds.came
+  calm_by Memory cause is other = cause.holds
+  calm_by ArenaFull cause is other = got_calmly cause.command old new cause.holds.bytes cause.holds.came
+  calm_by TooLong cause is other = cause.holds.1.1
 
-  pub words_by : (refusal : Refusal) → IsJustified words old new refusal → result ≡ status_of refusal → is_reading_form words ≡ false → result ≡ 2
-  words_by Usage cause is wrong = is
-  words_by (Syntax line) cause is wrong = absurd (true≢false (sym cause.words_are ∙ wrong))
-  words_by Read cause is wrong = absurd (true≢false (sym cause.words_are ∙ wrong))
-  words_by Memory cause is wrong = absurd (true≢false (sym cause.words_are ∙ wrong))
-  words_by ArenaFull cause is wrong = absurd (true≢false (sym cause.words_are ∙ wrong))
-  words_by TooLong cause is wrong = absurd (true≢false (sym cause.words_are ∙ wrong))
+  pub words_by : (refusal : Refusal) → IsJustified words old new refusal → result ≡ status_of refusal → command_of words ≡ None → result ≡ 2
+  words_by Usage cause is none = is
+  words_by (Syntax line) cause is none = absurd (no_command words cause.command none cause.asked)
+  words_by Read cause is none = absurd (no_command words cause.command none cause.asked)
+  words_by Memory cause is none = absurd (no_command words cause.command none cause.asked)
+  words_by ArenaFull cause is none = absurd (no_command words cause.command none cause.asked)
+  words_by TooLong cause is none = absurd (no_command words cause.command none cause.asked)
 
   -- a status that is that of a refusal is one that there is
   pub status_by : (refusal : Refusal) → result ≡ status_of refusal → is_status result ≡ true

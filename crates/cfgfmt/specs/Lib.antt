@@ -1,3 +1,4 @@
+pub mod Command
 pub mod Session
 pub mod Refusal
 pub mod Run

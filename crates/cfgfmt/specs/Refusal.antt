@@ -1,25 +1,21 @@
 -- A refusal has a status, a line and a cause.
-use Rattle.std.specs.Prelude.{◌≡◌, ℕ, ◌+◌, ◌<◌, ◌≤◌, length, Bool, true, false, List, [], ◌∷◌, ◌++◌, codes}
-use Rattle.std.specs.Str.{bytes_eq}
+use Rattle.std.specs.Prelude.{◌≡◌, ℕ, ◌+◌, ◌<◌, ◌≤◌, length, List, ◌++◌, codes, None}
 use Rattle.std.specs.Fmt.{decimal}
 use Rattle.hir_lower.specs.Lowered.{AreMost}
 use Rattle.causes.specs.Causes.{Rose}
 use Rattle.streams.specs.Streams.{SourceState}
-use Rattle.streams.specs.ReadWrite.{ReadsAll, TakesCount}
+use Rattle.streams.specs.ReadWrite.{TakesCount}
 use Rattle.script.specs.Limit.{max_script_len}
 use Rattle.script.specs.declared.script.ScriptError.{ScriptError}
 use Rattle.script.specs.declared.script.ScriptError.TheVariants as error
 use Rattle.script.specs.Contents.{Contents}
 use Rattle.script.specs.Script.{IsScript, IsFaultLine}
-use Rattle.cfgfmt.specs.Session.{script_around}
+use Rattle.cfgfmt.specs.declared.command.Command.{Command}
+use Rattle.cfgfmt.specs.declared.command.Command.TheVariants.{Run}
+use Rattle.cfgfmt.specs.Command.{command_of, Asks}
+use Rattle.cfgfmt.specs.Session.{script_around, Gets}
 use Rattle.cfgfmt.specs.declared.refusal.Refusal.{Refusal}
 use Rattle.cfgfmt.specs.declared.refusal.Refusal.TheVariants.{Usage, Syntax, Read, Memory, ArenaFull, TooLong}
-
--- the words ask for the outcomes of a script: there are none, or the one word `run`
-abbrev pub is_reading_form : List (List ℕ) → Bool
-is_reading_form [] = true
-is_reading_form (word ∷ []) = bytes_eq word (codes "run")
-is_reading_form (word ∷ next ∷ words) = false
 
 abbrev pub status_of : Refusal → ℕ
 status_of Usage = 2
@@ -54,34 +50,34 @@ pub record OutgrowsArena (bytes : List ℕ) : Type 0 where
   pub script : IsScript bytes contents
   pub many : AreMany contents
 
--- the source was read to its end without a fault, and this holds of its bytes
-pub record HasRead (old new : SourceState) (Holds : List ℕ → Type 0) : Type 0 where
+-- the script's bytes came as the command asks, and this holds of them
+pub record HasInput (command : Command) (old new : SourceState) (Holds : List ℕ → Type 0) : Type 0 where
   pub bytes : List ℕ
-  pub read : ReadsAll old new bytes
+  pub came : Gets command old new bytes
   pub holds : Holds bytes
 
--- what was found in the source, or befell it, where a refusal comes; want of memory may come whatever was found
-abbrev pub IsFound : SourceState → SourceState → Refusal → Type 0
-IsFound old new Usage = new ≡ old
-IsFound old new (Syntax line) = HasRead old new (λ bytes. IsFaulty bytes line)
-IsFound old new Read = Rose old.faults new.faults
-IsFound old new Memory = new.faults ≡ old.faults
-IsFound old new ArenaFull = HasRead old new OutgrowsArena
-IsFound old new TooLong = TakesCount old new (max_script_len + 1) × (new.faults ≡ old.faults)
+-- what was found by a command, or befell it, where a refusal comes; want of memory may come whatever was found
+abbrev pub IsFound : SourceState → SourceState → Refusal → Command → Type 0
+IsFound old new Usage = λ command. ⊥
+IsFound old new (Syntax line) = λ command. HasInput command old new (λ bytes. IsFaulty bytes line)
+IsFound old new Read = λ command. (command ≡ Run) × Rose old.faults new.faults
+IsFound old new Memory = λ command. new.faults ≡ old.faults
+IsFound old new ArenaFull = λ command. HasInput command old new OutgrowsArena
+IsFound old new TooLong = λ command. (command ≡ Run) × (TakesCount old new (max_script_len + 1) × (new.faults ≡ old.faults))
 
--- whether the words ask for a script where a refusal comes: all but that of wrong words come behind words that do
-abbrev pub asks_for_script : Refusal → Bool
-asks_for_script Usage = false
-asks_for_script (Syntax line) = true
-asks_for_script Read = true
-asks_for_script Memory = true
-asks_for_script ArenaFull = true
-asks_for_script TooLong = true
+-- the words ask for nothing that there is, and the source is as it was
+pub record AsksNothing (words : List (List ℕ)) (old new : SourceState) : Type 0 where
+  pub none : command_of words ≡ None
+  pub unread : new ≡ old
 
--- why a refusal comes: by the words, and by what was found in the source
-pub record IsJustified (words : List (List ℕ)) (old new : SourceState) (refusal : Refusal) : Type 0 where
-  pub words_are : is_reading_form words ≡ asks_for_script refusal
-  pub found : IsFound old new refusal
+-- why a refusal comes: by the words, and by what was found by their command
+abbrev pub IsJustified : List (List ℕ) → SourceState → SourceState → Refusal → Type 0
+IsJustified words old new Usage = AsksNothing words old new
+IsJustified words old new (Syntax line) = Asks words (IsFound old new (Syntax line))
+IsJustified words old new Read = Asks words (IsFound old new Read)
+IsJustified words old new Memory = Asks words (IsFound old new Memory)
+IsJustified words old new ArenaFull = Asks words (IsFound old new ArenaFull)
+IsJustified words old new TooLong = Asks words (IsFound old new TooLong)
 
 -- a refusal to read the bytes of a script: it comes of the bytes alone
 abbrev pub IsScriptRefusal : List ℕ → Refusal → Type 0
@@ -101,14 +97,14 @@ IsLowerRefusal many Usage = ⊥
 IsLowerRefusal many Read = ⊥
 IsLowerRefusal many TooLong = ⊥
 
--- a refusal to read a source: a read failed, too many bytes came, or memory was refused
-abbrev pub IsReadRefusal : SourceState → SourceState → Refusal → Type 0
-IsReadRefusal old new Read = Rose old.faults new.faults
-IsReadRefusal old new Memory = new.faults ≡ old.faults
-IsReadRefusal old new TooLong = TakesCount old new (max_script_len + 1) × (new.faults ≡ old.faults)
-IsReadRefusal old new Usage = ⊥
-IsReadRefusal old new (Syntax line) = ⊥
-IsReadRefusal old new ArenaFull = ⊥
+-- a refusal to get the bytes of the script that a command asks for: where they are read, a read failed or too many came; or memory was refused
+abbrev pub IsInputRefusal : Command → SourceState → SourceState → Refusal → Type 0
+IsInputRefusal command old new Read = (command ≡ Run) × Rose old.faults new.faults
+IsInputRefusal command old new Memory = new.faults ≡ old.faults
+IsInputRefusal command old new TooLong = (command ≡ Run) × (TakesCount old new (max_script_len + 1) × (new.faults ≡ old.faults))
+IsInputRefusal command old new Usage = ⊥
+IsInputRefusal command old new (Syntax line) = ⊥
+IsInputRefusal command old new ArenaFull = ⊥
 
 -- what a script that was not read becomes
 abbrev pub refusal_of : ScriptError → Refusal

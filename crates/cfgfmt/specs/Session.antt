@@ -13,6 +13,12 @@ use Rattle.script.specs.Limit.{max_script_len}
 use Rattle.script.specs.Contents.{Contents}
 use Rattle.script.specs.Script.{IsScript}
 use Rattle.printer.specs.Printed.{printed}
+use Rattle.printer.specs.Summary.{summary}
+use Rattle.script_generator.specs.Generated.{script_of}
+use Rattle.streams.specs.Streams.{SourceState}
+use Rattle.streams.specs.ReadWrite.{ReadsAll}
+use Rattle.cfgfmt.specs.declared.command.Command.{Command}
+use Rattle.cfgfmt.specs.declared.command.Command.TheVariants.{Run, Generate}
 use Rattle.cfgfmt.specs.declared.session.Session.{Session}
 
 -- the store is empty, the flag `true` alone is set, and there is no outcome
@@ -60,6 +66,13 @@ pub record Answers (bytes : List ℕ) (session : Session) : Type 0 where
   pub no_dangling : NoDanglingIds session.collector.store
   pub lowered : LowersAll contents session.outcomes.items session.collector
 
--- the printed form of a session
-abbrev pub output_of : Session → List ℕ
-output_of session = printed session.collector.store session.options session.outcomes.items
+-- what a command prints of a session: a line for each outcome, or the summary
+abbrev pub output_of : Command → Session → List ℕ
+output_of Run session = printed session.collector.store session.options session.outcomes.items
+output_of (Generate n) session = summary session.collector.store session.options session.outcomes.items
+
+-- the bytes of the script that a command asks for: all that the source had left, without a fault; or those that are made for a number, and the
+-- source is as it was
+abbrev pub Gets : Command → SourceState → SourceState → List ℕ → Type 0
+Gets Run old new bytes = ReadsAll old new bytes
+Gets (Generate n) old new bytes = (bytes ≡ script_of n) × (new ≡ old)

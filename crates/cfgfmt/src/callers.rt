@@ -1,8 +1,9 @@
 // Callers that know of `run` what its contract says, and nothing else.
 
-ghost use Rattle.std.specs.Prelude.{◌≡◌, ◌++◌, ◌∷◌, [], IfOk, codes};
+ghost use Rattle.std.specs.Prelude.{◌≡◌, ◌≢◌, ◌++◌, ◌∷◌, [], IfOk, codes};
 ghost use Rattle.std.specs.Fmt.{decimal};
 ghost use Rattle.cfgfmt.specs.Refusal.{IsFaulty};
+ghost use Rattle.cfgfmt.specs.Run.{IsSmall};
 
 use super::*;
 use std::alloc::{AllocError, Global};
@@ -18,6 +19,36 @@ fn run_in_memory(alloc: Global, script: Vec<u8>) -> Result<(u8, MemSink), AllocE
     let mut session = Session::new(alloc)?;
     let status = run(alloc, &[], &mut source, &mut sink, &mut session);
     Ok((status, sink))
+}
+
+// A run over a script in memory and a sink with this room: the source is never blamed, and the sink only where its room was less
+// than 64 bytes, or less than the output.
+fn run_surely(
+    alloc: Global,
+    script: Vec<u8>,
+    room: usize,
+) -> Result<(u8, SureSink, Session), AllocError>
+    ensures source { IfOk result (λ r. r.0 ≢ 4) }
+    ensures sink { IfOk result (λ r. r.0 ≡ 5 → IsSmall [] r.2 room) }
+{
+    let mut source = SureSource::new(script);
+    let mut sink = SureSink::with_room(alloc, room)?;
+    let mut session = Session::new(alloc)?;
+    let status = run(alloc, &[], &mut source, &mut sink, &mut session);
+    Ok((status, sink, session))
+}
+
+// The room is that of the output.
+#[test]
+fn runs_surely(rt: HostRuntime) -> Result<(), Fail> {
+    let script = b"format \"{0} {0:x} {0} {1}\" @1 @2".to_vec(rt.alloc())?;
+    let line =
+        b"0 code { let #0 = (&@1, &@2); let #0 = [Argument::new_display(#0.0), Argument::new_lower_hex(#0.0), Argument::new_display(#0.1)]; unsafe { Arguments::new(b\"C00120C00120C800000120C8020000\", &#0) } }\n";
+    let (status, sink, session) = run_surely(rt.alloc(), script, line.len())?;
+    assert_eq!(rt; status, 0);
+    assert_eq!(rt; sink.bytes(), line.as_slice());
+    assert_eq!(rt; session.outcomes.len(), 1);
+    Ok(())
 }
 
 #[test]

@@ -4,6 +4,10 @@
 
 #[cfg(test)]
 mod callers;
+mod command;
+#[cfg(test)]
+mod hostile;
+mod printing;
 mod program;
 mod refusal;
 #[cfg(test)]
@@ -12,9 +16,14 @@ mod session;
 #[cfg(test)]
 mod tests;
 
+pub use command::Command;
 pub use hir_expander::MacroTable;
-pub use printer::print_outcomes;
+pub use printing::{print_outcomes, print_summary};
 pub use program::run;
 pub use script::{Script, ScriptError, read_script};
+pub use script_generator::script_of;
 pub use session::Session;
-pub use streams::{MemSink, MemSource, ReadFailed, Sink, Source, StdSink, StdSource, WriteFailed};
+pub use streams::{
+    MemSink, MemSource, ReadFailed, Sink, Source, StdSink, StdSource, SureSink, SureSource,
+    WriteFailed,
+};

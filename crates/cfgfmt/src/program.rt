@@ -1,4 +1,4 @@
-ghost use Rattle.std.specs.Prelude.{◌≡◌, ◌≢◌, ◌≤◌, ◌<◌, ◌⊎◌, ◌+◌, [], true, false, vec_len, IfOk, IfErr, OnOk, OnErr, IsTrue};
+ghost use Rattle.std.specs.Prelude.{◌≡◌, ◌≢◌, ◌≤◌, ◌⊎◌, ◌+◌, Some, None, vec_len, IfOk, IfErr, OnOk, OnErr, IsTrue};
 ghost use Rattle.causes.specs.Causes.{Rose};
 ghost use Rattle.streams.specs.Streams.{StaysKnown};
 ghost use Rattle.streams.specs.ReadWrite.{ReadsAll, TakesCount, TakesAtMost};
@@ -6,28 +6,39 @@ ghost use Rattle.hir_lower.specs.Lowered.{AreOutcomes, AreRising, AreInStore};
 ghost use Rattle.hir_store.specs.Store.{NoDanglingIds};
 ghost use Rattle.script.specs.Script.{contents, IsScript};
 ghost use Rattle.script_grammar.specs.Limits.{max_limit};
+ghost use Rattle.cfgfmt.specs.declared.command.Command.TheVariants.{Run};
 ghost use Rattle.cfgfmt.specs.declared.refusal.Refusal.{Refusal};
-ghost use Rattle.cfgfmt.specs.Session.{IsNew, LowersAll, output_of, script_around};
-ghost use Rattle.cfgfmt.specs.Refusal.{is_reading_form, HasRead, IsFaulty, OutgrowsArena, AreMany, IsJustified, IsReadRefusal, IsScriptRefusal, IsLowerRefusal, refusal_of};
-ghost use Rattle.cfgfmt.specs.Run.{Prints, Makes, Refuses, TellsWhole, WritesPart, IsSent, IsTold, is_status};
+ghost use Rattle.cfgfmt.specs.Command.{command_of, Asks};
+ghost use Rattle.cfgfmt.specs.Session.{IsNew, LowersAll, Gets, output_of, script_around};
+ghost use Rattle.cfgfmt.specs.Refusal.{HasInput, IsFaulty, OutgrowsArena, AreMany, IsJustified, IsInputRefusal, IsScriptRefusal, IsLowerRefusal, refusal_of};
+ghost use Rattle.cfgfmt.specs.Run.{Prints, Makes, Refuses, TellsWhole, WritesPart, IsSent, IsTold, IsSmall, IsGood, is_status, is_good_status};
 
+use crate::command::Command;
+use crate::printing::{print_outcomes, print_summary};
 use crate::refusal::Refusal;
 use crate::session::{Session, script_collector};
 use hir_lower::LowerError;
-use printer::print_outcomes;
 use script::{MAX_SCRIPT_LEN, Script, ScriptError, end_last_line, read_ended};
-use std::alloc::{AllocError, Global};
+use script_generator::script_of;
+use std::alloc::Global;
 use streams::{ReadRefused, Sink, Source, read_whole, write_whole};
 use sym_core::Symbol;
 
-// Whether the words ask for the outcomes of a script.
-fn is_reading_form(words: &[Symbol]) -> bool
-    ensures { result ≡ is_reading_form words.now }
+// Gets the bytes of the script that a command asks for.
+fn input<S: Source>(alloc: Global, command: Command, source: &mut S) -> Result<Vec<u8>, Refusal>
+    ensures came { IfOk result (λ bytes. Gets command (S.state source.old) (S.state source.new) bytes.items) }
+    ensures fits { IfOk result (λ bytes. vec_len bytes ≤ MAX_SCRIPT_LEN) }
+    ensures refused { IfErr result (IsInputRefusal command (S.state source.old) (S.state source.new)) }
+    ensures unread { command ≢ Run → source.new ≡ source.old }
+    ensures taken { TakesAtMost (S.state source.old) (S.state source.new) (MAX_SCRIPT_LEN + 1) }
+    ensures known { StaysKnown (S.state source.old).left (S.state source.new).left }
 {
-    match words {
-        [] => true,
-        [word] => word.as_str() == "run",
-        _ => false,
+    match command {
+        Command::Run => read_input(alloc, source),
+        Command::Generate(n) => match script_of(alloc, n) {
+            Ok(bytes) => Ok(bytes),
+            Err(_) => Err(Refusal::Memory),
+        },
     }
 }
 
@@ -35,7 +46,7 @@ fn is_reading_form(words: &[Symbol]) -> bool
 fn read_input<S: Source>(alloc: Global, source: &mut S) -> Result<Vec<u8>, Refusal>
     ensures all { IfOk result (λ bytes. ReadsAll (S.state source.old) (S.state source.new) bytes.items) }
     ensures fits { IfOk result (λ bytes. vec_len bytes ≤ MAX_SCRIPT_LEN) }
-    ensures refused { IfErr result (IsReadRefusal (S.state source.old) (S.state source.new)) }
+    ensures refused { IfErr result (IsInputRefusal Run (S.state source.old) (S.state source.new)) }
     ensures taken { TakesAtMost (S.state source.old) (S.state source.new) (MAX_SCRIPT_LEN + 1) }
     ensures known { StaysKnown (S.state source.old).left (S.state source.new).left }
 {
@@ -74,17 +85,14 @@ fn refusal_of(error: ScriptError) -> Refusal
     }
 }
 
-// Lowers the calls of a script into the session, and prints what becomes of them. A refusal leaves the session as it was.
-fn lower(alloc: Global, script: Script, session: &mut Session) -> Result<Vec<u8>, Refusal>
+// Lowers the calls of a script into a session of its own.
+fn lower(alloc: Global, script: Script) -> Result<Session, Refusal>
     requires { script.limit ≤ max_limit }
-    ensures options { OnOk result (session.new.options ≡ script.options) }
-    ensures outcomes { OnOk result (AreOutcomes script.options (script_around (contents script)) session.new.collector.store script.calls.items session.new.outcomes.items) }
-    ensures within { OnOk result (AreInStore session.new.collector.store session.new.outcomes.items) }
-    ensures rising { OnOk result (AreRising 0 session.new.outcomes.items) }
-    ensures no_dangling { OnOk result (NoDanglingIds session.new.collector.store) }
-    ensures lowered { OnOk result (LowersAll (contents script) session.new.outcomes.items session.new.collector) }
-    ensures printed { IfOk result (λ output. output.items ≡ output_of session.new) }
-    ensures kept { OnErr result (session.new ≡ session.old) }
+    ensures options { IfOk result (λ session. session.options ≡ script.options) }
+    ensures outcomes { IfOk result (λ session. AreOutcomes script.options (script_around (contents script)) session.collector.store script.calls.items session.outcomes.items) }
+    ensures within { IfOk result (λ session. AreInStore session.collector.store session.outcomes.items) }
+    ensures rising { IfOk result (λ session. AreRising 0 session.outcomes.items) }
+    ensures lowered { IfOk result (λ session. LowersAll (contents script) session.outcomes.items session.collector) }
     ensures refused { IfErr result (IsLowerRefusal (AreMany (contents script))) }
 {
     let Script {
@@ -100,14 +108,28 @@ fn lower(alloc: Global, script: Script, session: &mut Session) -> Result<Vec<u8>
         Err(LowerError::Memory(_)) => return Err(Refusal::Memory),
         Err(LowerError::ArenaFull) => return Err(Refusal::ArenaFull),
     };
-    let output = match print_outcomes(alloc, collector.store(), &options, &outcomes) {
-        Ok(output) => output,
-        Err(_) => return Err(Refusal::Memory),
+    Ok(Session {
+        collector,
+        options,
+        outcomes,
+    })
+}
+
+// Prints what a command asks for of a session.
+fn print(alloc: Global, command: Command, session: &Session) -> Result<Vec<u8>, Refusal>
+    requires { AreInStore session.now.collector.store session.now.outcomes.items }
+    ensures printed { IfOk result (λ output. output.items ≡ output_of command session.now) }
+    ensures no_dangling { NoDanglingIds session.now.collector.store }
+    ensures refused { IfErr result (λ refusal. refusal ≡ Refusal.Memory) }
+{
+    let printed = match command {
+        Command::Run => print_outcomes(alloc, session),
+        Command::Generate(_) => print_summary(alloc, session),
     };
-    session.collector = collector;
-    session.options = options;
-    session.outcomes = outcomes;
-    Ok(output)
+    match printed {
+        Ok(output) => Ok(output),
+        Err(_) => Err(Refusal::Memory),
+    }
 }
 
 // What is to be printed, and the session that it stands for. A refusal leaves the session as it was.
@@ -117,20 +139,21 @@ fn answer<S: Source>(
     source: &mut S,
     session: &mut Session,
 ) -> Result<Vec<u8>, Refusal>
-    ensures words { OnOk result (is_reading_form words.now ≡ true) }
-    ensures made { IfOk result (λ output. Makes (S.state source.old) (S.state source.new) session.new output.items) }
+    ensures made { IfOk result (λ output. Asks words.now (Makes (S.state source.old) (S.state source.new) session.new output.items)) }
     ensures refused { IfErr result (IsJustified words.now (S.state source.old) (S.state source.new)) }
     ensures kept { OnErr result (session.new ≡ session.old) }
-    ensures unread { is_reading_form words.now ≡ false → source.new ≡ source.old }
+    ensures unread { command_of words.now ≢ Some Run → source.new ≡ source.old }
     ensures taken { TakesAtMost (S.state source.old) (S.state source.new) (MAX_SCRIPT_LEN + 1) }
     ensures known { StaysKnown (S.state source.old).left (S.state source.new).left }
 {
-    if !is_reading_form(words) {
+    let Some(command) = Command::of_words(words) else {
         return Err(Refusal::Usage);
-    }
-    let bytes = read_input(alloc, source)?;
+    };
+    let bytes = input(alloc, command, source)?;
     let script = read_bytes(alloc, bytes)?;
-    let output = lower(alloc, script, session)?;
+    let made = lower(alloc, script)?;
+    let output = print(alloc, command, &made)?;
+    *session = made;
     Ok(output)
 }
 
@@ -171,11 +194,15 @@ fn tell<K: Sink>(alloc: Global, sink: &mut K, refusal: Refusal) -> u8
     }
 }
 
-/// Runs the program: reads a script from the source, lowers its calls into the session, and writes what becomes of them
-/// to the sink, a line for each. Answers the status with which the program is to end.
+/// Runs the program as its words ask, and answers the status with which it is to end. The words are the program's
+/// arguments without its name:
 ///
-/// The words are the program's arguments without its name: none, or the one word `run`. The whole output is made before
-/// the first byte of it is written.
+/// - none, or the one word `run`: reads a script from the source, lowers its calls into the session, and writes what becomes
+///   of them to the sink, a line for each;
+/// - `gen` and a number of 1 to 10 digits, of at most 4,294,967,295: reads nothing, does the same with the script that
+///   [`script_of`] makes for the number, and writes a summary in place of the outcomes, as [`print_summary`] does.
+///
+/// The whole output is made before the first byte of it is written.
 ///
 /// ```
 /// let mut source = MemSource::new(b"format \"hi\"".to_vec(alloc)?, 4096, Vec::new(alloc));
@@ -201,7 +228,7 @@ pub fn run<S: Source, K: Sink>(
     requires { IsNew session.old }
 
     // The headline.
-    ensures prints { result ≡ 0 → Prints (S.state source.old) (S.state source.new) (K.state sink.old) (K.state sink.new) session.new }
+    ensures prints { result ≡ 0 → Asks words.now (Prints (S.state source.old) (S.state source.new) (K.state sink.old) (K.state sink.new) session.new) }
 
     // Every other answer is a refusal that has its cause, told by its line, or a part of the output or of such a line.
     ensures refuses { result ≢ 0 → result ≢ 5 → Refuses words.now (S.state source.old) (S.state source.new) session.new (TellsWhole result (K.state sink.old) (K.state sink.new)) }
@@ -209,16 +236,20 @@ pub fn run<S: Source, K: Sink>(
     ensures statuses { IsTrue (is_status result) }
 
     // What this says of each status.
-    ensures usage { result ≡ 2 → is_reading_form words.now ≡ false }
-    ensures syntax { result ≡ 3 → (line : _) × HasRead (S.state source.old) (S.state source.new) (λ bytes. IsFaulty bytes line) }
-    ensures read { result ≡ 4 → Rose (S.state source.old).faults (S.state source.new).faults }
+    ensures usage { result ≡ 2 → command_of words.now ≡ None }
+    ensures syntax { result ≡ 3 → Asks words.now (λ command. (line : _) × HasInput command (S.state source.old) (S.state source.new) (λ bytes. IsFaulty bytes line)) }
+    ensures read { result ≡ 4 → (command_of words.now ≡ Some Run) × Rose (S.state source.old).faults (S.state source.new).faults }
     ensures write { result ≡ 5 → Rose (K.state sink.old).faults (K.state sink.new).faults }
-    ensures full { result ≡ 8 → HasRead (S.state source.old) (S.state source.new) OutgrowsArena }
-    ensures too_long { result ≡ 9 → TakesCount (S.state source.old) (S.state source.new) (MAX_SCRIPT_LEN + 1) }
+    ensures room { result ≡ 5 → (room : _) → (K.state sink.old).room ≡ Some room → IsSmall words.now session.new room }
+    ensures full { result ≡ 8 → Asks words.now (λ command. HasInput command (S.state source.old) (S.state source.new) OutgrowsArena) }
+    ensures too_long { result ≡ 9 → (command_of words.now ≡ Some Run) × TakesCount (S.state source.old) (S.state source.new) (MAX_SCRIPT_LEN + 1) }
 
-    // Wrong words are never answered otherwise, and nothing is then read. No fault is passed over.
-    ensures words { is_reading_form words.now ≡ false → (result ≡ 2) ⊎ (result ≡ 5) }
-    ensures unread { is_reading_form words.now ≡ false → source.new ≡ source.old }
+    // Where the input is a script whose calls fit into a store, only the outside and want of memory are in the way.
+    ensures complete { IsGood words.now (S.state source.old) → IsTrue (is_good_status result) }
+
+    // Wrong words are never answered otherwise. Only words that ask for it have the source read. No fault is passed over.
+    ensures words { command_of words.now ≡ None → (result ≡ 2) ⊎ (result ≡ 5) }
+    ensures unread { command_of words.now ≢ Some Run → source.new ≡ source.old }
     ensures source_calm { result ≢ 4 → result ≢ 5 → (S.state source.new).faults ≡ (S.state source.old).faults }
     ensures sink_calm { result ≢ 5 → (K.state sink.new).faults ≡ (K.state sink.old).faults }
 

@@ -15,7 +15,7 @@ fn words_of(alloc: Global, text: &str) -> Result<Vec<Symbol>, AllocError> {
 
 // What a run with these words tells of a script: the status, the number of outcomes, and what is written. The source and the
 // sink fail in the calls of these numbers; the sink takes ten bytes in a call.
-fn told(
+pub(crate) fn told(
     alloc: Global,
     words: &str,
     script: Vec<u8>,
@@ -283,10 +283,8 @@ fn nests_to_a_depth_of_128(rt: HostRuntime) -> Result<(), Fail> {
 fn tells_what_failed(rt: HostRuntime) -> Result<(), Fail> {
     let script = b"format \"hi\"".as_slice();
     let whole = "0 1\n0 code Arguments::from_str(s\"6869\")\n";
-    let cases: [(&str, &[u64], &[u64], &str); 6] = [
+    let cases: [(&str, &[u64], &[u64], &str); 4] = [
         ("run", &[], &[], whole),
-        ("foo", &[], &[], "2 0\nerror usage\n"),
-        ("run run", &[], &[], "2 0\nerror usage\n"),
         // The source fails where it would tell its end.
         ("", &[1], &[], "4 0\nerror read\n"),
         // The sink fails behind ten bytes of the output, and then at an error line.
@@ -296,6 +294,43 @@ fn tells_what_failed(rt: HostRuntime) -> Result<(), Fail> {
     for (words, failing_reads, failing_writes, want) in cases {
         let bytes = script.to_vec(rt.alloc())?;
         let text = told(rt.alloc(), words, bytes, failing_reads, failing_writes)?;
+        assert_eq!(rt; text.as_str(), want, "with the words {words}");
+    }
+    Ok(())
+}
+
+// Words ask for a script that is read, or for one that is made; no others ask for anything.
+#[test]
+fn does_what_words_ask_for(rt: HostRuntime) -> Result<(), Fail> {
+    let many = "0 1001\ncalls 1001\noff 250\ncode 751\nhints 500\nexprs 370509\n";
+    let usage = "2 0\nerror usage\n";
+    let cases = [
+        ("", "4 0\nerror read\n"),
+        ("run", "4 0\nerror read\n"),
+        ("gen 0", "0 1\ncalls 1\noff 0\ncode 1\nhints 0\nexprs 3\n"),
+        ("gen 4", "0 5\ncalls 5\noff 1\ncode 4\nhints 2\nexprs 75\n"),
+        (
+            "gen 0000000004",
+            "0 5\ncalls 5\noff 1\ncode 4\nhints 2\nexprs 75\n",
+        ),
+        (
+            "gen 1000",
+            "0 1001\ncalls 1001\noff 250\ncode 751\nhints 500\nexprs 16509\n",
+        ),
+        ("gen 60000", many),
+        ("gen 4294967295", many),
+        ("gen 4294967296", usage),
+        ("gen 00000000004", usage),
+        ("gen +4", usage),
+        ("gen", usage),
+        ("gen 4 4", usage),
+        ("foo", usage),
+        ("foo 4", usage),
+        ("run run", usage),
+    ];
+    for (words, want) in cases {
+        // The source fails in its first call, and is not read for a script that is made.
+        let text = told(rt.alloc(), words, Vec::new(rt.alloc()), &[0], &[])?;
         assert_eq!(rt; text.as_str(), want, "with the words {words}");
     }
     Ok(())

@@ -2,3 +2,4 @@ pub mod Assembly
 pub mod Mapping
 pub mod Printed
 pub mod Statements
+pub mod Summary

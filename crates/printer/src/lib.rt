@@ -7,6 +7,8 @@ mod asm;
 mod expr;
 mod mapping;
 mod printed;
+mod summary;
 mod words;
 
 pub use printed::print_outcomes;
+pub use summary::print_summary;

@@ -129,8 +129,8 @@ fn write_more<W: fmt::Write>(atoms: &[CfgAtom], f: &mut fmt::Formatter<W>) -> fm
     write!(f, " and {last}")
 }
 
-// Writes atoms, with `, ` between and ` and ` in front of the last.
-fn write_atoms<W: fmt::Write>(atoms: &[CfgAtom], f: &mut fmt::Formatter<W>) -> fmt::Result
+/// Writes atoms, with `, ` between and ` and ` in front of the last: `a, b and c`; nothing where there are none.
+pub fn write_atoms<W: fmt::Write>(atoms: &[CfgAtom], f: &mut fmt::Formatter<W>) -> fmt::Result
     ensures { WritesOnOk W.write_str_gives f.old result (atoms_text atoms.now) f.new }
 {
     let Some((first, rest)) = atoms.split_first() else {

@@ -16,6 +16,7 @@ pub use cfg_diff::CfgDiff;
 pub use cfg_expr::{CfgAtom, CfgExpr};
 pub use cfg_iter::{CfgIntoIter, CfgIter, CfgKeys, CfgValues};
 pub use cfg_options::CfgOptions;
+pub use cfg_text::write_atoms;
 pub use hashable::HashableCfgOptions;
 pub use laws::{
     atoms_in_order, diff_decides, diff_has_each_once, diff_has_its_atoms, listings_decide,

@@ -13,5 +13,7 @@ pub use item_line::end_item;
 pub use laws::lines_are_read;
 pub use lexer::next_token;
 pub use line::{blank_line, line_end};
-pub use reader::{arrow, close_round, direct_number, leaf, mark, number, open_round, text, word};
+pub use reader::{
+    arrow, close_round, direct_number, leaf, mark, number, number_of, open_round, text, word,
+};
 pub use token::{Bracket, Token, TokenKind};

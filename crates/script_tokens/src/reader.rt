@@ -105,8 +105,14 @@ fn all_digits(text: &str) -> bool
     true
 }
 
-// The number of 32 bits that digits write.
-fn number_of(digits: &str) -> Option<u32>
+/// Returns the number of 32 bits that decimal digits write; `None` where there is another character among them, or none at
+/// all, or where the number is larger.
+///
+/// ```
+/// assert_eq!(number_of("007"), Some(7));
+/// assert_eq!(number_of("+7"), None);
+/// ```
+pub fn number_of(digits: &str) -> Option<u32>
     ensures { result ≡ number_of digits.now }
 {
     if !all_digits(digits) {
@@ -185,6 +191,8 @@ mod tests {
         let (greatest, _) = number(begin("4294967295")).expect(&rt, "the greatest");
         assert_eq!(rt; greatest, u32::MAX, "the greatest number");
         assert!(rt; number(begin("4294967296")).is_none(), "one more");
+        assert_eq!(rt; number_of("007"), Some(7), "digits alone");
+        assert!(rt; number_of("+7").is_none(), "another character");
         assert!(rt; number(begin("12x")).is_none(), "a word goes on");
         assert!(rt; leaf(begin("@7")).is_some(), "a leaf");
         assert!(rt; leaf(begin("@ 7")).is_none(), "a mark and a number");

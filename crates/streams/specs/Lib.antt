@@ -1,4 +1,5 @@
 pub mod Streams
 pub mod Memory
+pub mod Sure
 pub mod StdStreams
 pub mod ReadWrite

@@ -1,5 +1,5 @@
 -- A source and a sink in memory fail in the calls whose numbers they were given, and move a piece in each other call.
-use Rattle.std.specs.Prelude.{ℕ, ◌+◌, ◌-◌, ◌^◌, List, [], ◌++◌, take, drop, length, min, Some, Result, Ok, Err}
+use Rattle.std.specs.Prelude.{ℕ, ◌+◌, ◌-◌, ◌^◌, List, [], ◌++◌, take, drop, length, min, None, Some, Result, Ok, Err}
 use Rattle.streams.specs.Streams.{SourceState, SinkState}
 
 -- one more, where a count of 64 bits stays at its last value
@@ -40,9 +40,9 @@ pub record MemSinkState : Type 0 where
   pub call : ℕ
   pub faults : ℕ
 
--- what a caller of any sink sees of it
+-- what a caller of any sink sees of it: it fails in other calls too than those for which no room is left
 abbrev pub sink_state : MemSinkState → SinkState
-sink_state sink = record { written = Some sink.bytes; faults = sink.faults }
+sink_state sink = record { written = Some sink.bytes; faults = sink.faults; room = None }
 
 -- an empty sink with room for so many bytes, before its first call
 abbrev pub new_sink : ℕ → ℕ → List ℕ → MemSinkState

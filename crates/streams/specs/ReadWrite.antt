@@ -2,7 +2,7 @@
 use Rattle.std.specs.Prelude.{◌≡◌, ℕ, ◌<◌, ◌≤◌, List, ◌++◌, length, IfSome}
 use Rattle.std.specs.Io.KnownBytes.{Appends, Consumes, IsAtEnd}
 use Rattle.causes.specs.Causes.{Rose}
-use Rattle.streams.specs.Streams.{SourceState, SinkState}
+use Rattle.streams.specs.Streams.{SourceState, SinkState, TakesRoom, IsFull}
 use Rattle.streams.specs.declared.read_write.ReadRefused.{ReadRefused}
 use Rattle.streams.specs.declared.read_write.ReadRefused.TheVariants.{Failed, TooLong, Memory}
 
@@ -26,16 +26,19 @@ CountsFault old new Failed = Rose old.faults new.faults
 CountsFault old new TooLong = new.faults ≡ old.faults
 CountsFault old new (Memory _) = new.faults ≡ old.faults
 
--- the bytes stand behind what was written before, and no write failed
+-- the bytes stand behind what was written before, and took room, and no write failed
 pub record WritesWhole (old new : SinkState) (bytes : List ℕ) : Type 0 where
   pub whole : Appends old.written new.written bytes
+  pub room : TakesRoom old.room new.room (length bytes)
   pub calm : new.faults ≡ old.faults
 
--- a front of the bytes was written, and not the whole of them, since a write failed
+-- a front of the bytes was written, and not the whole of them, since a write failed; where the room is known, this front filled it
 pub record WritesFront (old new : SinkState) (bytes : List ℕ) : Type 0 where
   pub front : List ℕ
   pub rest : List ℕ
   pub cut : bytes ≡ front ++ rest
   pub more : 0 < length rest
   pub written : Appends old.written new.written front
+  pub room : TakesRoom old.room new.room (length front)
+  pub full : IsFull new.room
   pub failed : Rose old.faults new.faults

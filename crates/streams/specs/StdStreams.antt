@@ -24,6 +24,6 @@ writer_of sink = sink.writer
 abbrev pub write_faults : {W : Type 0} → StdSink W → ℕ
 write_faults sink = sink.faults
 
--- what a caller of any sink sees of it: its content is not known
+-- what a caller of any sink sees of it: neither its content nor its room is known
 abbrev pub std_sink_state : {W : Type 0} → StdSink W → SinkState
-std_sink_state sink = record { written = None; faults = sink.faults }
+std_sink_state sink = record { written = None; faults = sink.faults; room = None }

@@ -1,8 +1,8 @@
-ghost use Rattle.std.specs.Prelude.{◌≡◌, ◌<◌, ◌≤◌, ◌⊎◌, ◌↔◌, Some, length, take, Contains, IfOk, IsErr};
+ghost use Rattle.std.specs.Prelude.{◌≡◌, ◌<◌, ◌≤◌, ◌⊎◌, ◌↔◌, None, Some, length, take, Contains, IfOk, IsErr};
 ghost use Rattle.std.specs.Io.{ReadsAtMost, WritesAtMost};
 ghost use Rattle.std.specs.Io.KnownBytes.{ReadConsumes, WriteAppends};
 ghost use Rattle.causes.specs.Causes.{HasCause};
-ghost use Rattle.streams.specs.Streams.{StaysKnown, WritesSome};
+ghost use Rattle.streams.specs.Streams.{StaysKnown, WritesSome, WritesInRoom};
 ghost use Rattle.streams.specs.Memory.{source_state, new_source, given, after_read, sink_state, new_sink, taken, after_write};
 
 use crate::{ReadFailed, Sink, Source, WriteFailed};
@@ -88,7 +88,7 @@ impl Source for MemSource {
 }
 
 // Copies the first `count` bytes.
-fn copy_front(from: &[u8], to: &mut [u8], count: usize)
+pub(crate) fn copy_front(from: &[u8], to: &mut [u8], count: usize)
     requires from { count ≤ length from.now }
     requires to { count ≤ length to.old }
     ensures { take count to.new ≡ take count from.now }
@@ -167,6 +167,7 @@ impl Sink for MemSink {
         ensures some { WritesSome result piece.now }
         ensures bytes { WriteAppends (Some self.old.bytes) (Some self.new.bytes) result piece.now }
         ensures known { StaysKnown (Some self.old.bytes) (Some self.new.bytes) }
+        ensures room { WritesInRoom None None result }
         ensures cause { HasCause self.old.faults self.new.faults result }
 
         ensures fails { IsErr result ↔ (Contains self.old.failing self.old.call ⊎ ((0 < length piece.now) × (self.old.room ≡ 0))) }

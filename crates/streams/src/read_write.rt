@@ -1,5 +1,5 @@
-ghost use Rattle.std.specs.Prelude.{◌≡◌, ◌+◌, ◌<◌, ◌≤◌, length, vec_len, IfOk, IfErr, OnOk, OnErr, IsErrOf};
-ghost use Rattle.streams.specs.Streams.{StaysKnown};
+ghost use Rattle.std.specs.Prelude.{◌≡◌, ◌+◌, ◌<◌, ◌≤◌, length, vec_len, IfOk, IfErr, IsOk, OnOk, OnErr, IsErrOf};
+ghost use Rattle.streams.specs.Streams.{StaysKnown, Fits};
 ghost use Rattle.streams.specs.ReadWrite.{ReadsAll, TakesCount, TakesAtMost, CountsFault, WritesWhole, WritesFront};
 
 use crate::{ReadFailed, Sink, Source, WriteFailed};
@@ -68,7 +68,8 @@ pub fn read_whole<S: Source>(
 
 /// Writes all the bytes. Each call of the sink is given all that is left, and none is made where nothing is left.
 ///
-/// Fails at once where a write fails; a front of the bytes is then written, and not the whole of them.
+/// Fails at once where a write fails; a front of the bytes is then written, and not the whole of them. It does not fail
+/// where the sink's room is known and the bytes fit.
 ///
 /// ```
 /// let mut sink = MemSink::new(alloc, 10, 4, Vec::new(alloc))?;
@@ -78,6 +79,7 @@ pub fn read_whole<S: Source>(
 pub fn write_whole<K: Sink>(sink: &mut K, bytes: &[u8]) -> Result<(), WriteFailed>
     ensures whole { OnOk result (WritesWhole (K.state sink.old) (K.state sink.new) bytes.now) }
     ensures front { OnErr result (WritesFront (K.state sink.old) (K.state sink.new) bytes.now) }
+    ensures fits { Fits (K.state sink.old).room (length bytes.now) → IsOk result }
     ensures idle { length bytes.now ≡ 0 → sink.new ≡ sink.old }
     ensures known { StaysKnown (K.state sink.old).written (K.state sink.new).written }
     ensures later { (K.state sink.old).faults ≤ (K.state sink.new).faults }

@@ -2,7 +2,7 @@ ghost use Rattle.std.specs.Prelude.{◌≡◌, length, None};
 ghost use Rattle.std.specs.Io.{ReadsAtMost, WritesAtMost};
 ghost use Rattle.std.specs.Io.KnownBytes.{ReadConsumes, WriteAppends};
 ghost use Rattle.causes.specs.Causes.{HasCause};
-ghost use Rattle.streams.specs.Streams.{StaysKnown, WritesSome};
+ghost use Rattle.streams.specs.Streams.{StaysKnown, WritesSome, WritesInRoom};
 ghost use Rattle.streams.specs.StdStreams.{reader_of, read_faults, std_source_state, writer_of, write_faults, std_sink_state};
 
 use crate::{ReadFailed, Sink, Source, WriteFailed};
@@ -75,6 +75,7 @@ impl<W: Write> Sink for StdSink<W> {
         ensures some { WritesSome result piece.now }
         ensures bytes { WriteAppends None None result piece.now }
         ensures known { StaysKnown None None }
+        ensures room { WritesInRoom None None result }
         ensures cause { HasCause (write_faults self.old) (write_faults self.new) result }
 
         // The writer was handed the piece, and holds what it took of it.

@@ -1,8 +1,6 @@
-use Rattle.std.proofs.Common.{◌≡◌, Err, ap, ◌∙◌, subst}
+use Rattle.std.proofs.Common.{Err, ap, ◌∙◌, subst}
 use Rattle.hir_build.specs.Building.{Outgrows}
-use Rattle.format_code.specs.FormatCall.{Surroundings}
-use Rattle.hir_expander.specs.Table.{resolved, expanded}
-use Rattle.hir_lower.specs.Collector.{around, frame_of}
+use Rattle.hir_lower.specs.Collector.{frame_of}
 use Rattle.hir_lower.specs.Lowered.{AreMost, AreOutcomes, Lowers, most_lets}
 use Rattle.script.specs.Script.{contents}
 use Rattle.cfgfmt.specs.Session.{script_around}

@@ -1,0 +1,6 @@
+use Rattle.script_generator.specs.Generated.{item_text}
+use Rattle.script_generator.proofs.Below.{written_more}
+use Rattle.script_generator.proofs.generated.push_items.Goals as goal
+
+pub loop-number-preserved : goal.loop-number-preserved
+loop-number-preserved c = written_more item_text c.loop-number.number _ _ _ c.loop-number.invariant c.in_ok-push_item.ensures
