@@ -1,6 +1,6 @@
 // Scripts that are cut short, names that are reserved, versions, and an outside that fails at any of its calls.
 
-use super::tests::{told, told_of};
+use super::tests::{assert_told, told};
 use super::*;
 use std::alloc::{AllocError, Global};
 use std::test::Fail;
@@ -38,11 +38,7 @@ fn tells_why_reserved_names_and_versions_are_off(rt: HostRuntime) -> Result<(), 
         ),
     ];
     for (script, want) in cases {
-        assert_eq!(rt;
-            told_of(rt.alloc(), script)?.as_str(),
-            want,
-            "of the script {script}"
-        );
+        assert_told(&rt, rt.alloc(), script, want)?;
     }
     Ok(())
 }

@@ -1,6 +1,6 @@
 // Rows of scripts: macros, limits, language items, templates and arguments, and what a run prints of them.
 
-use super::tests::told_of;
+use super::tests::{assert_told, told_of};
 use super::*;
 use std::alloc::{AllocError, Global};
 use std::test::Fail;
@@ -143,11 +143,7 @@ fn prints_code(rt: HostRuntime) -> Result<(), Fail> {
         ),
     ];
     for (script, want) in cases {
-        assert_eq!(rt;
-            told_of(rt.alloc(), script)?.as_str(),
-            want,
-            "of the script {script}"
-        );
+        assert_told(&rt, rt.alloc(), script, want)?;
     }
     Ok(())
 }
@@ -198,11 +194,7 @@ fn expands_macros(rt: HostRuntime) -> Result<(), Fail> {
         ),
     ];
     for (script, want) in cases {
-        assert_eq!(rt;
-            told_of(rt.alloc(), script)?.as_str(),
-            want,
-            "of the script {script}"
-        );
+        assert_told(&rt, rt.alloc(), script, want)?;
     }
     Ok(())
 }
@@ -242,11 +234,7 @@ fn lowers_arguments(rt: HostRuntime) -> Result<(), Fail> {
         ),
     ];
     for (script, want) in cases {
-        assert_eq!(rt;
-            told_of(rt.alloc(), script)?.as_str(),
-            want,
-            "of the script {script}"
-        );
+        assert_told(&rt, rt.alloc(), script, want)?;
     }
     Ok(())
 }
@@ -421,11 +409,7 @@ fn prints_assembly(rt: HostRuntime) -> Result<(), Fail> {
         ),
     ];
     for (script, want) in cases {
-        assert_eq!(rt;
-            told_of(rt.alloc(), script)?.as_str(),
-            want,
-            "of the script {script}"
-        );
+        assert_told(&rt, rt.alloc(), script, want)?;
     }
     Ok(())
 }

@@ -1,5 +1,6 @@
 use super::*;
 use std::alloc::{AllocError, Global};
+use std::process::Abort;
 use std::str;
 use std::test::Fail;
 use sym_core::Symbol;
@@ -35,6 +36,18 @@ pub(crate) fn told(
 // What a run without words tells of a script.
 pub(crate) fn told_of(alloc: Global, script: &str) -> Result<String, Fail> {
     told(alloc, "", script.as_bytes().to_vec(alloc)?, &[], &[])
+}
+
+// Asserts what a run without words tells of a script.
+pub(crate) fn assert_told(
+    rt: &impl Abort,
+    alloc: Global,
+    script: &str,
+    want: &str,
+) -> Result<(), Fail> {
+    let text = told_of(alloc, script)?;
+    assert_eq!(rt; text.as_str(), want, "of the script {script}");
+    Ok(())
 }
 
 // Each case is a script, and behind it the status, the number of calls and the output that it has.
@@ -110,11 +123,7 @@ format ""
         ),
     ];
     for (script, want) in cases {
-        assert_eq!(rt;
-            told_of(rt.alloc(), script)?.as_str(),
-            want,
-            "of the script {script}"
-        );
+        assert_told(&rt, rt.alloc(), script, want)?;
     }
     Ok(())
 }
@@ -164,11 +173,7 @@ fn gates_calls_by_their_predicates(rt: HostRuntime) -> Result<(), Fail> {
         ),
     ];
     for (script, want) in cases {
-        assert_eq!(rt;
-            told_of(rt.alloc(), script)?.as_str(),
-            want,
-            "of the script {script}"
-        );
+        assert_told(&rt, rt.alloc(), script, want)?;
     }
     Ok(())
 }

@@ -1,5 +1,5 @@
 -- What is kept of calls changes no tree, and what stood before the code that has it grows all the same.
-use Rattle.std.proofs.Common.{◌≡◌, ◌≢◌, ℕ, ◌≤◌, List, [], ◌∷◌, length, reverse, drop, nat_eq, true, slice_get, unwrap_or, Option, Some, refl, sym, ap, ap₂, ◌∙◌, ◌+◌, subst, arith, eq-eqb}
+use Rattle.std.proofs.Common.{◌≡◌, ℕ, ◌≤◌, List, [], ◌∷◌, length, reverse, drop, nat_eq, true, slice_get, unwrap_or, Some, refl, sym, ap, ap₂, ◌∙◌, ◌+◌, subst, arith, eq-eqb}
 use Rattle.std.proofs.lemmas.List.{length-reverse}
 use Rattle.std.proofs.lemmas.Bool.{cond-true}
 use Rattle.sym_core.specs.declared.files.InFile.{InFile}

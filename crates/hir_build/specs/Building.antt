@@ -22,6 +22,10 @@ pub record Builds (old new : Frame) (most lets : ℕ) : Type 0 where
   pub pats : length new.store.pats ≤ length old.store.pats + lets
   pub bindings : length new.store.bindings ≤ length old.store.bindings + lets
 
+-- what format calls capture is as it was
+abbrev pub SameCaptures : ExpressionStore → ExpressionStore → Type 0
+SameCaptures old new = new.format_args_to_captures ≡ old.format_args_to_captures
+
 -- this many more expressions, or this many more patterns or bindings, do not fit into an arena
 abbrev pub Outgrows : ExpressionStore → ℕ → ℕ → Type 0
 Outgrows store most lets = (4_294_967_295 < length store.exprs + most) ⊎ (4_294_967_295 < length store.pats + lets) ⊎ (4_294_967_295 < length store.bindings + lets)

@@ -1,5 +1,5 @@
 -- What is kept of calls: a name that a format call uses has its place in the template, the code of the call has all of them, and the code of inline assembly has the operands that its templates put.
-use Rattle.std.specs.Prelude.{◌≡◌, List, Option, Some}
+use Rattle.std.specs.Prelude.{◌≡◌, List, Option}
 use Rattle.sym_core.specs.declared.files.AstPtr.{AstPtr}
 use Rattle.sym_core.specs.declared.files.HirFileId.{HirFileId}
 use Rattle.sym_core.specs.declared.files.InFile.{InFile}

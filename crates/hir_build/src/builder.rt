@@ -8,7 +8,7 @@ ghost use Rattle.hir_store.specs.Store.{IsEmptyStore, NoDanglingIds, EachDefines
 ghost use Rattle.hir_build.specs.Origins.{bare, from_source, all_origins, steps_origins, operands_origins, origins_at, origins_over};
 ghost use Rattle.hir_build.specs.Callee.{has_item, callee_tree, callee_origin};
 ghost use Rattle.hir_build.specs.Placed.{Placed, AllPlaced, IsLet, StatementIn, StatementsIn, PartsIn, reference_trees, reference_origins};
-ghost use Rattle.hir_build.specs.Building.{Builds, Outgrows};
+ghost use Rattle.hir_build.specs.Building.{SameCaptures, Builds, Outgrows};
 ghost use Rattle.hir_build.specs.Captures.{capture_origin, EntersCapture, Notes, NotesMapping};
 
 use crate::LowerError;
@@ -112,6 +112,7 @@ impl Builder {
         ensures later { IfOk result (λ made. length self.old.store.exprs ≤ place_of made) }
         ensures newest { IfOk result (λ made. place_of made + 1 ≡ length self.new.store.exprs) }
         ensures builds { Builds self.old self.new 1 0 }
+        ensures captures { SameCaptures self.old.store self.new.store }
         ensures longer { length self.old.store.exprs ≤ length self.new.store.exprs }
         ensures full { result ≡ Err LowerError.ArenaFull → Outgrows self.old.store 1 0 }
     {
@@ -124,6 +125,7 @@ impl Builder {
         ensures later { IfOk result (λ made. length self.old.store.exprs ≤ place_of made) }
         ensures newest { IfOk result (λ made. place_of made + 1 ≡ length self.new.store.exprs) }
         ensures builds { Builds self.old self.new 1 0 }
+        ensures captures { SameCaptures self.old.store self.new.store }
         ensures longer { length self.old.store.exprs ≤ length self.new.store.exprs }
         ensures full { result ≡ Err LowerError.ArenaFull → Outgrows self.old.store 1 0 }
     {
@@ -136,6 +138,7 @@ impl Builder {
         ensures later { IfOk result (λ made. length self.old.store.exprs ≤ place_of made) }
         ensures newest { IfOk result (λ made. place_of made + 1 ≡ length self.new.store.exprs) }
         ensures builds { Builds self.old self.new 1 0 }
+        ensures captures { SameCaptures self.old.store self.new.store }
         ensures longer { length self.old.store.exprs ≤ length self.new.store.exprs }
         ensures full { result ≡ Err LowerError.ArenaFull → Outgrows self.old.store 1 0 }
     {
@@ -148,6 +151,7 @@ impl Builder {
         ensures later { IfOk result (λ made. length self.old.store.exprs ≤ place_of made) }
         ensures newest { IfOk result (λ made. place_of made + 1 ≡ length self.new.store.exprs) }
         ensures builds { Builds self.old self.new 1 0 }
+        ensures captures { SameCaptures self.old.store self.new.store }
         ensures longer { length self.old.store.exprs ≤ length self.new.store.exprs }
         ensures full { result ≡ Err LowerError.ArenaFull → Outgrows self.old.store 1 0 }
     {
@@ -167,6 +171,7 @@ impl Builder {
         ensures later { IfOk result (λ made. length self.old.store.exprs ≤ place_of made) }
         ensures newest { IfOk result (λ made. place_of made + 1 ≡ length self.new.store.exprs) }
         ensures builds { Builds self.old self.new 1 0 }
+        ensures captures { SameCaptures self.old.store self.new.store }
         ensures longer { length self.old.store.exprs ≤ length self.new.store.exprs }
         ensures full { result ≡ Err LowerError.ArenaFull → Outgrows self.old.store 1 0 }
     {
@@ -184,6 +189,7 @@ impl Builder {
         ensures later { IfOk result (λ made. length self.old.store.exprs ≤ place_of made) }
         ensures newest { IfOk result (λ made. place_of made + 1 ≡ length self.new.store.exprs) }
         ensures builds { Builds self.old self.new 1 0 }
+        ensures captures { SameCaptures self.old.store self.new.store }
         ensures longer { length self.old.store.exprs ≤ length self.new.store.exprs }
         ensures full { result ≡ Err LowerError.ArenaFull → Outgrows self.old.store 1 0 }
     {
@@ -197,6 +203,7 @@ impl Builder {
         ensures later { IfOk result (λ made. length self.old.store.exprs ≤ place_of made) }
         ensures newest { IfOk result (λ made. place_of made + 1 ≡ length self.new.store.exprs) }
         ensures builds { Builds self.old self.new 1 0 }
+        ensures captures { SameCaptures self.old.store self.new.store }
         ensures longer { length self.old.store.exprs ≤ length self.new.store.exprs }
         ensures full { result ≡ Err LowerError.ArenaFull → Outgrows self.old.store 1 0 }
     {
@@ -210,6 +217,7 @@ impl Builder {
         ensures later { IfOk result (λ made. length self.old.store.exprs ≤ place_of made) }
         ensures newest { IfOk result (λ made. place_of made + 1 ≡ length self.new.store.exprs) }
         ensures builds { Builds self.old self.new 1 0 }
+        ensures captures { SameCaptures self.old.store self.new.store }
         ensures longer { length self.old.store.exprs ≤ length self.new.store.exprs }
         ensures full { result ≡ Err LowerError.ArenaFull → Outgrows self.old.store 1 0 }
     {
@@ -223,6 +231,7 @@ impl Builder {
         ensures later { IfOk result (λ made. length self.old.store.exprs ≤ place_of made) }
         ensures newest { IfOk result (λ made. place_of made + 1 ≡ length self.new.store.exprs) }
         ensures builds { Builds self.old self.new 1 0 }
+        ensures captures { SameCaptures self.old.store self.new.store }
         ensures longer { length self.old.store.exprs ≤ length self.new.store.exprs }
         ensures full { result ≡ Err LowerError.ArenaFull → Outgrows self.old.store 1 0 }
     {
@@ -244,6 +253,7 @@ impl Builder {
         ensures later { IfOk result (λ made. length self.old.store.exprs ≤ place_of made) }
         ensures newest { IfOk result (λ made. place_of made + 1 ≡ length self.new.store.exprs) }
         ensures builds { Builds self.old self.new 1 0 }
+        ensures captures { SameCaptures self.old.store self.new.store }
         ensures longer { length self.old.store.exprs ≤ length self.new.store.exprs }
         ensures full { result ≡ Err LowerError.ArenaFull → Outgrows self.old.store 1 0 }
     {
@@ -268,6 +278,7 @@ impl Builder {
         ensures later { IfOk result (λ made. length self.old.store.exprs ≤ place_of made) }
         ensures newest { IfOk result (λ made. place_of made + 1 ≡ length self.new.store.exprs) }
         ensures builds { Builds self.old self.new 1 0 }
+        ensures captures { SameCaptures self.old.store self.new.store }
         ensures longer { length self.old.store.exprs ≤ length self.new.store.exprs }
         ensures full { result ≡ Err LowerError.ArenaFull → Outgrows self.old.store 1 0 }
     {
@@ -291,6 +302,7 @@ impl Builder {
         ensures later { IfOk result (λ made. length self.old.store.exprs ≤ place_of made) }
         ensures newest { IfOk result (λ made. place_of made + 1 ≡ length self.new.store.exprs) }
         ensures builds { Builds self.old self.new 1 0 }
+        ensures captures { SameCaptures self.old.store self.new.store }
         ensures longer { length self.old.store.exprs ≤ length self.new.store.exprs }
         ensures full { result ≡ Err LowerError.ArenaFull → Outgrows self.old.store 1 0 }
     {
@@ -307,6 +319,7 @@ impl Builder {
         ensures placed { IfOk result (λ made. AllPlaced self.new.store made (reference_trees (tree_at self.old.store) ids.now) (reference_origins (origins_at self.old.store) ids.now)) }
         ensures within { IfOk result (λ made. AllBelow (length self.new.store.exprs) made) }
         ensures builds { Builds self.old self.new (length ids.now) 0 }
+        ensures captures { SameCaptures self.old.store self.new.store }
         ensures longer { length self.old.store.exprs ≤ length self.new.store.exprs }
         ensures full { result ≡ Err LowerError.ArenaFull → Outgrows self.old.store (length ids.now) 0 }
     {
@@ -333,6 +346,7 @@ impl Builder {
         ensures within { IfOk result (λ made. StatementIn self.new.store made) }
         ensures fresh { OnOk result (self.new.fresh ≡ max self.old.fresh (number + 1)) }
         ensures builds { Builds self.old self.new 0 1 }
+        ensures captures { SameCaptures self.old.store self.new.store }
         ensures longer { length self.old.store.exprs ≤ length self.new.store.exprs }
         ensures full { result ≡ Err LowerError.ArenaFull → Outgrows self.old.store 0 1 }
     {
@@ -359,6 +373,7 @@ impl Builder {
         ensures later { IfOk result (λ made. length self.old.store.exprs ≤ place_of made) }
         ensures newest { IfOk result (λ made. place_of made + 1 ≡ length self.new.store.exprs) }
         ensures builds { Builds self.old self.new 1 0 }
+        ensures captures { SameCaptures self.old.store self.new.store }
         ensures longer { length self.old.store.exprs ≤ length self.new.store.exprs }
         ensures full { result ≡ Err LowerError.ArenaFull → Outgrows self.old.store 1 0 }
     {
@@ -415,6 +430,7 @@ impl Builder {
         ensures later { IfOk result (λ made. length self.old.store.exprs ≤ place_of made) }
         ensures newest { IfOk result (λ made. place_of made + 1 ≡ length self.new.store.exprs) }
         ensures builds { Builds self.old self.new 1 0 }
+        ensures captures { SameCaptures self.old.store self.new.store }
         ensures longer { length self.old.store.exprs ≤ length self.new.store.exprs }
         ensures full { result ≡ Err LowerError.ArenaFull → Outgrows self.old.store 1 0 }
     {
@@ -445,6 +461,7 @@ impl Builder {
         ensures later { IfOk result (λ made. length self.old.store.exprs ≤ place_of made) }
         ensures newest { IfOk result (λ made. place_of made + 1 ≡ length self.new.store.exprs) }
         ensures builds { Builds self.old self.new 1 0 }
+        ensures captures { SameCaptures self.old.store self.new.store }
         ensures longer { length self.old.store.exprs ≤ length self.new.store.exprs }
         ensures full { result ≡ Err LowerError.ArenaFull → Outgrows self.old.store 1 0 }
     {
@@ -459,6 +476,7 @@ impl Builder {
         ensures later { IfOk result (λ made. length self.old.store.exprs ≤ place_of made) }
         ensures newest { IfOk result (λ made. place_of made + 1 ≡ length self.new.store.exprs) }
         ensures builds { Builds self.old self.new 1 0 }
+        ensures captures { SameCaptures self.old.store self.new.store }
         ensures longer { length self.old.store.exprs ≤ length self.new.store.exprs }
         ensures full { result ≡ Err LowerError.ArenaFull → Outgrows self.old.store 1 0 }
     {
@@ -477,6 +495,7 @@ impl Builder {
         ensures later { IfOk result (λ made. length self.old.store.exprs ≤ place_of made) }
         ensures newest { IfOk result (λ made. place_of made + 1 ≡ length self.new.store.exprs) }
         ensures builds { Builds self.old self.new 1 0 }
+        ensures captures { SameCaptures self.old.store self.new.store }
         ensures longer { length self.old.store.exprs ≤ length self.new.store.exprs }
         ensures full { result ≡ Err LowerError.ArenaFull → Outgrows self.old.store 1 0 }
     {

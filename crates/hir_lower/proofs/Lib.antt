@@ -11,3 +11,4 @@ pub mod CodeLaws
 pub mod CallLowered
 pub mod Outcomes
 pub mod Gated
+pub mod Most

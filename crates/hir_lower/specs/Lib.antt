@@ -10,3 +10,4 @@ pub mod CallCode
 pub mod CallParsed
 pub mod Collector
 pub mod Lowered
+pub mod Laws

@@ -147,7 +147,8 @@ impl ExprCollector {
     /// Lowers a parsed template over its arguments, whose expressions stand in the store already, and returns its code,
     /// which is at this pointer.
     ///
-    /// An argument that a piece refers to and that is not there is a missing expression in the code.
+    /// An argument that a piece refers to and that is not there is a missing expression in the code. Nothing is entered
+    /// into what format calls capture.
     ///
     /// # Errors
     ///
@@ -164,6 +165,7 @@ impl ExprCollector {
         ensures later { IfOk result (λ made. length self.old.store.exprs ≤ place_of made) }
         ensures newest { IfOk result (λ made. place_of made + 1 ≡ length self.new.store.exprs) }
         ensures fresh { OnOk result (self.new.fresh ≡ fresh_behind self.old.fresh fmt) }
+        ensures captures { self.new.store.format_args_to_captures ≡ self.old.store.format_args_to_captures }
         ensures stays { Stays self.old self.new }
         ensures older { Grows self.old.store self.new.store }
         ensures count { length self.new.store.exprs ≤ length self.old.store.exprs + (length fmt.arguments.arguments + 4 * length (pairs_of (canonical_pieces fmt.template)) + 9) }

@@ -7,7 +7,7 @@ ghost use Rattle.hir_store.specs.Unfolding.{place_of, tree_at};
 ghost use Rattle.hir_store.specs.PartsBelow.{AllBelow};
 ghost use Rattle.hir_build.specs.Origins.{Origin, bare, origins_at};
 ghost use Rattle.hir_build.specs.Placed.{Placed, AllPlaced, IsLet};
-ghost use Rattle.hir_build.specs.Building.{Builds, Outgrows};
+ghost use Rattle.hir_build.specs.Building.{Builds, SameCaptures, Outgrows};
 ghost use Rattle.template_bytes.specs.Canonical.{canonical_pieces};
 ghost use Rattle.template_bytes.specs.Pairs.{pairs_of};
 ghost use Rattle.template_bytes.specs.Spelling.{IsCanonical};
@@ -68,6 +68,7 @@ pub(crate) fn build_format_args(
     ensures later { IfOk result (λ made. length builder.old.store.exprs ≤ place_of made) }
     ensures newest { IfOk result (λ made. place_of made + 1 ≡ length builder.new.store.exprs) }
     ensures builds { Builds builder.old builder.new (length fmt.now.arguments.arguments + 4 * length (pairs_of (canonical_pieces fmt.now.template)) + 9) 2 }
+    ensures captures { SameCaptures builder.old.store builder.new.store }
     ensures fresh { OnOk result (builder.new.fresh ≡ fresh_behind builder.old.fresh fmt.now) }
     ensures full { result ≡ Err LowerError.ArenaFull → Outgrows builder.old.store (length fmt.now.arguments.arguments + 4 * length (pairs_of (canonical_pieces fmt.now.template)) + 9) 2 }
 {
@@ -134,6 +135,7 @@ fn build_text(
     ensures later { IfOk result (λ made. length builder.old.store.exprs ≤ place_of made) }
     ensures newest { IfOk result (λ made. place_of made + 1 ≡ length builder.new.store.exprs) }
     ensures builds { Builds builder.old builder.new 4 0 }
+    ensures captures { SameCaptures builder.old.store builder.new.store }
     ensures full { result ≡ Err LowerError.ArenaFull → Outgrows builder.old.store 4 0 }
 {
     // `Arguments::from_str(TEXT)`
@@ -148,6 +150,7 @@ fn build_from_str(builder: &mut Builder, site: Site, text: Symbol) -> Result<Exp
     ensures later { IfOk result (λ made. length builder.old.store.exprs ≤ place_of made) }
     ensures newest { IfOk result (λ made. place_of made + 1 ≡ length builder.new.store.exprs) }
     ensures builds { Builds builder.old builder.new 3 0 }
+    ensures captures { SameCaptures builder.old.store builder.new.store }
     ensures full { result ≡ Err LowerError.ArenaFull → Outgrows builder.old.store 3 0 }
 {
     let from_str = builder.callee(LangItem::FormatArguments, LangFn::FromStr, None)?;
@@ -185,6 +188,7 @@ fn build_template(
     ensures later { IfOk result (λ made. length builder.old.store.exprs ≤ place_of made) }
     ensures newest { IfOk result (λ made. place_of made + 1 ≡ length builder.new.store.exprs) }
     ensures builds { Builds builder.old builder.new (length fmt.now.arguments.arguments + 4 * length encoded.pairs.keys + 9) 2 }
+    ensures captures { SameCaptures builder.old.store builder.new.store }
     ensures fresh { OnOk result (builder.new.fresh ≡ fresh_with builder.old.fresh fmt.now.arguments.arguments) }
     ensures full { result ≡ Err LowerError.ArenaFull → Outgrows builder.old.store (length fmt.now.arguments.arguments + 4 * length encoded.pairs.keys + 9) 2 }
 {
@@ -208,6 +212,7 @@ fn build_without_arguments(
     ensures later { IfOk result (λ made. length builder.old.store.exprs ≤ place_of made) }
     ensures newest { IfOk result (λ made. place_of made + 1 ≡ length builder.new.store.exprs) }
     ensures builds { Builds builder.old builder.new 7 0 }
+    ensures captures { SameCaptures builder.old.store builder.new.store }
     ensures full { result ≡ Err LowerError.ArenaFull → Outgrows builder.old.store 7 0 }
 {
     // `[]`
@@ -232,6 +237,7 @@ fn build_with_arguments(
     ensures later { IfOk result (λ made. length builder.old.store.exprs ≤ place_of made) }
     ensures newest { IfOk result (λ made. place_of made + 1 ≡ length builder.new.store.exprs) }
     ensures builds { Builds builder.old builder.new (length fmt.now.arguments.arguments + 4 * length pairs.now + 9) 2 }
+    ensures captures { SameCaptures builder.old.store builder.new.store }
     ensures fresh { OnOk result (builder.new.fresh ≡ builder.old.fresh + 1) }
     ensures full { result ≡ Err LowerError.ArenaFull → Outgrows builder.old.store (length fmt.now.arguments.arguments + 4 * length pairs.now + 9) 2 }
 {
@@ -260,6 +266,7 @@ fn build_lets(
     ensures are { IfOk result (λ made. AreLets builder.old builder.new.store made.items number args.now (shown_pairs pairs.now)) }
     ensures fresh { OnOk result (builder.new.fresh ≡ number + 1) }
     ensures builds { Builds builder.old builder.new (length args.now + 4 * length pairs.now + 2) 2 }
+    ensures captures { SameCaptures builder.old.store builder.new.store }
     ensures full { result ≡ Err LowerError.ArenaFull → Outgrows builder.old.store (length args.now + 4 * length pairs.now + 2) 2 }
 {
     // `let #n = (&ARG, ..);`
@@ -281,6 +288,7 @@ fn build_tuple(
     ensures is { IfOk result (λ made. IsLet builder.new.store made (Name.Fresh number) (Tuple (references (trees_of_args builder.old args.now))) (tuple_origins (origins_of_args builder.old args.now))) }
     ensures fresh { OnOk result (builder.new.fresh ≡ max builder.old.fresh (number + 1)) }
     ensures builds { Builds builder.old builder.new (length args.now + 1) 1 }
+    ensures captures { SameCaptures builder.old.store builder.new.store }
     ensures full { result ≡ Err LowerError.ArenaFull → Outgrows builder.old.store (length args.now + 1) 1 }
 {
     // `(&ARG, ..)`
@@ -303,6 +311,7 @@ fn build_array(
     ensures is { IfOk result (λ made. IsLet builder.new.store made (Name.Fresh number) (Array (elements builder.old.items number (shown_pairs pairs.now))) (array_origins builder.old.file builder.old.items (syntaxes_of args.now) (shown_pairs pairs.now))) }
     ensures fresh { OnOk result (builder.new.fresh ≡ max builder.old.fresh (number + 1)) }
     ensures builds { Builds builder.old builder.new (4 * length pairs.now + 1) 1 }
+    ensures captures { SameCaptures builder.old.store builder.new.store }
     ensures full { result ≡ Err LowerError.ArenaFull → Outgrows builder.old.store (4 * length pairs.now + 1) 1 }
 {
     // `[Argument::FUNCTION(#n.PLACE), ..]`
@@ -322,6 +331,7 @@ fn build_elements(
 ) -> Result<ExprIds, LowerError>
     ensures placed { IfOk result (λ made. AllPlaced builder.new.store made (elements builder.old.items number (shown_pairs pairs.now)) (elements_origins builder.old.file builder.old.items (syntaxes_of args.now) (shown_pairs pairs.now))) }
     ensures builds { Builds builder.old builder.new (4 * length pairs.now) 0 }
+    ensures captures { SameCaptures builder.old.store builder.new.store }
     ensures full { result ≡ Err LowerError.ArenaFull → Outgrows builder.old.store (4 * length pairs.now) 0 }
 {
     let mut elements = Vec::new(alloc);
@@ -343,6 +353,7 @@ fn build_element(
 ) -> Result<ExprId, LowerError>
     ensures placed { IfOk result (λ made. Placed builder.new.store made (element builder.old.items number (shown_pair pair)) (element_origins builder.old.file builder.old.items syntax)) }
     ensures builds { Builds builder.old builder.new 4 0 }
+    ensures captures { SameCaptures builder.old.store builder.new.store }
     ensures full { result ≡ Err LowerError.ArenaFull → Outgrows builder.old.store 4 0 }
 {
     // `#n.PLACE`
@@ -362,6 +373,7 @@ fn build_field(
 ) -> Result<ExprId, LowerError>
     ensures placed { IfOk result (λ made. Placed builder.new.store made (Field (Path (Name.Fresh number)) (Name.TupleField (field_number argument))) (bare ∷ bare ∷ [])) }
     ensures builds { Builds builder.old builder.new 2 0 }
+    ensures captures { SameCaptures builder.old.store builder.new.store }
     ensures full { result ≡ Err LowerError.ArenaFull → Outgrows builder.old.store 2 0 }
 {
     let tuple = builder.path(Name::fresh(number), None)?;
@@ -409,6 +421,7 @@ fn build_named(
 ) -> Result<ExprId, LowerError>
     ensures placed { IfOk result (λ made. Placed builder.new.store made (new_code builder.old.items bytes (Path (Name.Fresh number))) (new_origins (call_origin builder.old site.ptr) (bare ∷ []))) }
     ensures builds { Builds builder.old builder.new 6 0 }
+    ensures captures { SameCaptures builder.old.store builder.new.store }
     ensures full { result ≡ Err LowerError.ArenaFull → Outgrows builder.old.store 6 0 }
 {
     let list = builder.path(Name::fresh(number), None)?;
@@ -427,6 +440,7 @@ fn build_new(
     ensures later { IfOk result (λ made. length builder.old.store.exprs ≤ place_of made) }
     ensures newest { IfOk result (λ made. place_of made + 1 ≡ length builder.new.store.exprs) }
     ensures builds { Builds builder.old builder.new 5 0 }
+    ensures captures { SameCaptures builder.old.store builder.new.store }
     ensures full { result ≡ Err LowerError.ArenaFull → Outgrows builder.old.store 5 0 }
 {
     // `Arguments::new(BYTES, &LIST)`
@@ -445,6 +459,7 @@ fn build_new_call(
     requires within { place_of list < length builder.old.store.exprs }
     ensures placed { IfOk result (λ made. Placed builder.new.store made (new_call builder.old.items bytes (tree_at builder.old.store list)) (bare ∷ bare ∷ bare ∷ bare ∷ origins_at builder.old.store list)) }
     ensures builds { Builds builder.old builder.new 4 0 }
+    ensures captures { SameCaptures builder.old.store builder.new.store }
     ensures full { result ≡ Err LowerError.ArenaFull → Outgrows builder.old.store 4 0 }
 {
     let bytes = Boxed::new(alloc, bytes)?;
@@ -468,6 +483,7 @@ fn build_behind(
     ensures behind { IfOk result (λ made. place_of tail ≤ place_of made) }
     ensures newest { place_of tail + 1 ≡ length builder.old.store.exprs → IfOk result (λ made. place_of made + 1 ≡ length builder.new.store.exprs) }
     ensures builds { Builds builder.old builder.new 1 0 }
+    ensures captures { SameCaptures builder.old.store builder.new.store }
     ensures full { result ≡ Err LowerError.ArenaFull → Outgrows builder.old.store 1 0 }
 {
     if exprs.is_empty() {

@@ -1,4 +1,4 @@
-use Rattle.std.proofs.Common.{arith}
+use Rattle.std.proofs.Common.{arith, ◌∙◌}
 use Rattle.hir_build.proofs.Builds.{builds_then, builds_within}
 use Rattle.hir_build.proofs.Placed.{all_placed_later}
 use Rattle.hir_lower.specs.FormatArgs.{syntaxes_of}
@@ -12,4 +12,5 @@ loop-pair-preserved c =
     record {
       placed = rw c.in_ok-push.ensures.items (elements_next c.args.builder.now.file c.args.builder.now.items (syntaxes_of c.args.args.now) _ _ _ _ _ _ _ c.loop-pair-test.true before one);
       builds = builds_within (builds_then c.loop-pair.invariant.builds c.in_ok-element.ensures.builds) (omega arith) (omega arith);
+      captures = c.in_ok-element.ensures.captures ∙ c.loop-pair.invariant.captures;
     }

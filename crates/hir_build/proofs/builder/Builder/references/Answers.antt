@@ -35,6 +35,7 @@ loop-id-preserved c =
     record {
       placed = rw (c.in_ok-push.ensures.items, take_more c.args.ids.now c.loop-id.id-index none c.loop-id-test.true) (references_on _ _ _ _ _ _ id before one);
       builds = builds_then c.loop-id.invariant.builds c.in_ok-reference.ensures.builds;
+      captures = c.in_ok-reference.ensures.captures ∙ c.loop-id.invariant.captures;
     }
 
 pub returns-clause-within : goal.returns-clause-within
