@@ -20,6 +20,7 @@ pub use command::Command;
 pub use hir_expander::MacroTable;
 pub use printing::{print_outcomes, print_summary};
 pub use program::run;
+pub use refusal::Refusal;
 pub use script::{Script, ScriptError, read_script};
 pub use script_generator::script_of;
 pub use session::Session;

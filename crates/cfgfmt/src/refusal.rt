@@ -1,6 +1,6 @@
-/// Why a run answers no script.
+/// Why a run answers no script, as the contract of [`run`](crate::run) tells it.
 #[derive(Debug, Drop)]
-pub(crate) enum Refusal {
+pub enum Refusal {
     /// The words ask for nothing that there is.
     Usage,
     /// The bytes are no script, and the first broken item begins in this line, counted from 1.
