@@ -1,5 +1,5 @@
 -- What a run over a script in memory answers: a status, and bytes that go with it.
-use Rattle.std.specs.Prelude.{◌≡◌, ◌≤◌, ◌<◌, ◌⊎◌, ℕ, List, length, take}
+use Rattle.std.specs.Prelude.{◌≡◌, ◌≤◌, ◌<◌, ◌⊎◌, ℕ, List, ◌++◌, length, drop}
 use Rattle.printer.specs.Printed.{printed}
 use Rattle.script.specs.Limit.{max_script_len}
 use Rattle.cfgfmt.specs.declared.session.Session.{Session}
@@ -34,14 +34,14 @@ pub record IsRefusal (script : List ℕ) (status : ℕ) (output : List ℕ) : Ty
 abbrev pub IsAnswer : List ℕ → ℕ → List ℕ → Type 0
 IsAnswer script status output = ((status ≡ 0) × IsOutput script output) ⊎ IsRefusal script status output
 
--- an answer of this status is handed out through room for bytes
+-- an answer of this status is handed out through room for bytes: where it fits it stands at the front, and what is behind it is as it was
 abbrev pub Handed : List ℕ → ℕ → List ℕ → List ℕ → ℕ → Type 0
 Handed output status room room_now result =
-    ((length output ≤ length room) × ((result ≡ status) × (take (length output) room_now ≡ output)))
+    ((length output ≤ length room) × ((result ≡ status) × (room_now ≡ output ++ drop (length output) room)))
     ⊎ ((length room < length output) × ((result ≡ 5) × (room_now ≡ room)))
 
--- The headline for bytes in memory. The script has an answer, whose length is told; where the room holds it, the room begins with it and
--- the status is its own; else the room is as it was, and the status is 5.
+-- The headline for bytes in memory. The script has an answer, whose length is told; where the room holds it, the room begins with it, is
+-- as it was behind it, and the status is its own; else the room is as it was, and the status is 5.
 pub record Answered (script room room_now : List ℕ) (told result : ℕ) : Type 0 where
   pub status : ℕ
   pub output : List ℕ

@@ -31,3 +31,26 @@ pub(crate) fn hand_out(status: u8, output: &[u8], room: &mut [u8], told: &mut us
     room[..output.len()].copy_from_slice(output);
     status
 }
+
+#[cfg(test)]
+mod tests {
+    use super::*;
+    use std::test::Fail;
+
+    #[test]
+    fn answers_in_memory(rt: HostRuntime) -> Result<(), Fail> {
+        let line = b"0 code Arguments::from_str(s\"6869\")\n".as_slice();
+        let (status, sink) = answer(rt.alloc(), b"format \"hi\"")?;
+        assert_eq!(rt; status, 0);
+        assert_eq!(rt; sink.bytes(), line);
+        let mut told = 0;
+        let mut small = [1; 30];
+        assert_eq!(rt; hand_out(status, sink.bytes(), &mut small, &mut told), 5);
+        assert_eq!(rt; told, line.len());
+        assert!(rt; small.iter().all(|byte| *byte == 1));
+        let mut room = [1; 40];
+        assert_eq!(rt; hand_out(status, sink.bytes(), &mut room, &mut told), 0);
+        assert!(rt; room.starts_with(line));
+        Ok(())
+    }
+}

@@ -16,7 +16,8 @@ use std::alloc::Global;
 /// The status is 0 where the output is that of the script's outcomes. Where the script is refused, the output is the line
 /// of the refusal: with status 3 it is no script, with 6 no memory is left, with 8 an arena of the store is full, with 9 it
 /// has more than 16,777,216 bytes. The status is 5 where the output does not fit: the room is then left as it was, and a
-/// second call with room for the length that is told has the output, if memory is left as it was.
+/// second call with room for the length that is told has the output, if memory is left as it was. Behind an output that
+/// fits the room is as it was.
 ///
 /// To C it is `uint8_t juqabhino_run(const uint8_t *script, size_t script_len, uint8_t *room, size_t room_len, size_t *told)`.
 /// A caller owes: no pointer is null, not even that of no bytes; the bytes of `script` are initialised, and no one writes to
