@@ -6,11 +6,11 @@ use Rattle.ra_cfg.specs.declared.cfg_expr.CfgExpr.{CfgExpr}
 use Rattle.cfg_dnf.specs.Form.{form, part_forms, ahead, later, or_else, both, first, sum_first, product_first}
 use Rattle.cfg_dnf.specs.Making.{Made, Unmade, MakesIf, shifted}
 
-later_shifted : (i : ℕ) (p : List ℕ) → shifted i (later p) ≡ shifted (i + 1) p
+pub later_shifted : (i : ℕ) (p : List ℕ) → shifted i (later p) ≡ shifted (i + 1) p
 later_shifted i [] = refl
 later_shifted i (k ∷ p) = let e : i + suc k ≡ i + 1 + k = omega arith in ap (λ n. n ∷ p) e
 
-not_shifted : (p : List ℕ) → shifted 0 p ≡ p
+pub not_shifted : (p : List ℕ) → shifted 0 p ≡ p
 not_shifted [] = refl
 not_shifted (k ∷ p) = let e : 0 + k ≡ k = omega arith in ap (λ n. n ∷ p) e
 

@@ -142,7 +142,7 @@ abbrev pub joined : {L : Type 0} → Forms L → Forms L → Forms L
 joined End hs = hs
 joined (More f gs) hs = More f (joined gs hs)
 
-parts_joined : (negated : Bool) (xs ys : List CfgExpr) → part_forms negated (xs ++ ys) ≡ joined (part_forms negated xs) (part_forms negated ys)
+pub parts_joined : (negated : Bool) (xs ys : List CfgExpr) → part_forms negated (xs ++ ys) ≡ joined (part_forms negated xs) (part_forms negated ys)
 parts_joined negated [] ys = refl
 parts_joined negated (x ∷ xs) ys = ap (More (form x negated)) (parts_joined negated xs ys)
 

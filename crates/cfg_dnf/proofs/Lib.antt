@@ -1,5 +1,6 @@
 pub mod Agreement
 pub mod Beginning
+pub mod Choosing
 pub mod Equations
 pub mod Examples
 pub mod Gathered
@@ -9,9 +10,11 @@ pub mod HintLaws
 pub mod InOrder
 pub mod Leaves
 pub mod Lists
+pub mod NumberLaws
 pub mod Passing
 pub mod ReasonLaws
 pub mod Reasoned
+pub mod Searching
 pub mod Standing
 pub mod Steps
 pub mod TextSteps

@@ -7,6 +7,8 @@ pub mod Laws
 pub mod Leaves
 pub mod ReasonText
 pub mod Making
+pub mod Numbered
+pub mod Numbers
 pub mod Reasons
 pub mod Stepping
 pub mod Truth

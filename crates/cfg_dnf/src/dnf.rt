@@ -5,12 +5,15 @@ ghost use Rattle.cfg_dnf.specs.Form.{form, paths, behind};
 ghost use Rattle.cfg_dnf.specs.Hints.{in_order, hints, reason};
 ghost use Rattle.cfg_dnf.specs.Walking.{IsStanding, StandsAt, left_of};
 ghost use Rattle.cfg_dnf.specs.Joined.{joined};
+ghost use Rattle.cfg_dnf.specs.Numbered.{hint_from};
 
 use crate::choices::{first_choices, next_choices};
 use crate::conjunction_text::chosen_text;
 use crate::counted::{FalseAtoms, gather, is_true};
 use crate::enable_hints::EnableHints;
 use crate::inactive_reason::InactiveReason;
+use crate::numbered::first_from;
+use crate::numbered_hint::NumberedHint;
 use ra_cfg::{CfgExpr, CfgOptions};
 use sqlite_items::Items;
 use std::alloc::{AllocError, Global};
@@ -107,6 +110,33 @@ impl DnfExpr {
         ensures left { left_of result ≡ hints opts.now self.now }
     {
         EnableHints::new(alloc, &self.expr, opts)
+    }
+
+    /// Returns the first hint among the conjunctions of this number and of larger ones, with the number of its conjunction.
+    /// Numbers count from 0, in the order of the conjunctions, and are below `u64::MAX`: a conjunction behind those has none.
+    /// So one more than the number of a hint is a number to go on from. The conjunction of the number is not walked to.
+    ///
+    /// ```
+    /// let dnf = DnfExpr::new(alloc, &expr)?;                             // of `all(any(a, b), c)`
+    /// let Some(first) = dnf.hint_from(alloc, &options, 0)? else { .. };         // where none of the three is on
+    /// assert!(first.number == 0);                                        // and its hint is "enable a and c"
+    /// let Some(second) = dnf.hint_from(alloc, &options, first.number + 1)? else { .. };
+    /// assert!(second.number == 1);                                       // and its hint is "enable b and c"
+    /// assert!(dnf.hint_from(alloc, &options, second.number + 1)?.is_none());
+    /// ```
+    ///
+    /// # Errors
+    ///
+    /// Returns an error if there is no memory.
+    pub fn hint_from(
+        &self,
+        alloc: Global,
+        opts: &CfgOptions,
+        number: u64,
+    ) -> Result<Option<NumberedHint>, AllocError>
+        ensures { IfOk result (λ found. found ≡ hint_from opts.now self.now number) }
+    {
+        first_from(alloc, &self.expr, opts, number)
     }
 
     /// Returns the predicate as its conjunctions: a single one alone, and none or several in `any(..)`; in a conjunction a

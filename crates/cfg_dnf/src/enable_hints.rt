@@ -7,9 +7,7 @@ ghost use Rattle.cfg_dnf.specs.Walking.{left_of, IsStanding, IsAlong, HasEnded};
 ghost use Rattle.cfg_dnf.specs.Stepping.{wanted, most_left, Steps, GivesNext, Gives};
 
 use crate::choices::{first_choices, next_choices};
-use crate::conjunction::take_literals;
-use crate::hinting::hint_of;
-use crate::literal::Literal;
+use crate::hinting::chosen_hint;
 use ra_cfg::{CfgDiff, CfgExpr, CfgOptions};
 use std::alloc::{AllocError, Global};
 
@@ -92,9 +90,7 @@ impl<'a> EnableHints<'a> {
     fn hint(&self) -> Result<Option<CfgDiff>, AllocError>
         ensures { IfOk result (λ hint. hint ≡ hint_if self.now.opts.now (chosen (form self.now.expr.now false) self.now.choices.items)) }
     {
-        let mut literals: Vec<Literal> = Vec::new(self.alloc);
-        take_literals(self.expr, false, self.choices.as_slice(), &mut literals)?;
-        hint_of(self.alloc, literals.as_slice(), self.opts)
+        chosen_hint(self.alloc, self.expr, self.choices.as_slice(), self.opts)
     }
 
     // Goes to the next conjunction that gives a hint.

@@ -1,19 +1,35 @@
-ghost use Rattle.std.specs.Prelude.{◌≡◌, ◌↔◌, [], ◌∷◌, IfOk, IsTrue};
+ghost use Rattle.std.specs.Prelude.{◌≡◌, ◌↔◌, false, [], ◌∷◌, IfOk, IsTrue};
 ghost use Rattle.std.specs.List.{list_any, list_all, filter_map, cons_option};
 ghost use Rattle.std.specs.FinSet as set;
 ghost use Rattle.ra_cfg.specs.Options.{atom_cmp, IsReserved, name_of};
 ghost use Rattle.cfg_dnf.specs.Conjunctions.{literal as literal_of};
+ghost use Rattle.cfg_dnf.specs.Form.{form, chosen};
 ghost use Rattle.cfg_dnf.specs.Gathering.{TakesIn, put_in};
 ghost use Rattle.cfg_dnf.specs.Hints.{leaf_answer as answer_of_leaf, is_true as holds_true, is_atom as is_of_atom, is_settled as settled, leaf_atom, plain_atom, negated_atom, contradicts as contradict, is_fixed as fixed, hint_if};
 
+use crate::conjunction::take_literals;
 use crate::counted::{FalseAtoms, is_so, take_atom};
 use crate::literal::{Leaf, Literal};
-use ra_cfg::{CfgAtom, CfgDiff, CfgOptions};
+use ra_cfg::{CfgAtom, CfgDiff, CfgExpr, CfgOptions};
 use std::alloc::{AllocError, Global};
 use std::collections::BTreeSet;
 
-/// Returns the hint of a conjunction, if it gives one.
-pub(crate) fn hint_of(
+/// Returns the hint of the conjunction of these choices, if it gives one.
+pub(crate) fn chosen_hint(
+    alloc: Global,
+    expr: &CfgExpr,
+    choices: &[usize],
+    opts: &CfgOptions,
+) -> Result<Option<CfgDiff>, AllocError>
+    ensures { IfOk result (λ hint. hint ≡ hint_if opts.now (chosen (form expr.now false) choices.now)) }
+{
+    let mut literals: Vec<Literal> = Vec::new(alloc);
+    take_literals(expr, false, choices, &mut literals)?;
+    hint_of(alloc, literals.as_slice(), opts)
+}
+
+// The hint of a conjunction, if it gives one.
+fn hint_of(
     alloc: Global,
     literals: &[Literal],
     opts: &CfgOptions,

@@ -12,6 +12,9 @@ mod hinting;
 mod inactive_reason;
 mod laws;
 mod literal;
+mod numbered;
+mod numbered_hint;
+mod numbers;
 mod reason_text;
 #[cfg(test)]
 mod tests;
@@ -20,3 +23,4 @@ pub use dnf::DnfExpr;
 pub use enable_hints::EnableHints;
 pub use inactive_reason::InactiveReason;
 pub use laws::{hints_are_complete, hints_of_all, hints_work, reasons_by_leaves, walks_in_order};
+pub use numbered_hint::NumberedHint;

@@ -1,4 +1,4 @@
-use crate::{DnfExpr, EnableHints, InactiveReason};
+use crate::{DnfExpr, EnableHints, InactiveReason, NumberedHint};
 use ra_cfg::{CfgAtom, CfgExpr, CfgOptions};
 use sqlite_items::Items;
 use std::alloc::{AllocError, Global};
@@ -189,6 +189,74 @@ fn many_conjunctions_are_not_gone_through(rt: HostRuntime) -> Result<(), Fail> {
     let text = format!(in rt.alloc(); "all ( {parts} )")?;
     assert!(rt; first_hint(rt.alloc(), text.as_str())?.as_str() == "enable a");
     assert!(rt; reason(rt.alloc(), text.as_str(), "")?.as_str() == "0 2: a and b are disabled");
+    Ok(())
+}
+
+// The first hint from this number on, behind its number, where these flags are set.
+fn numbered_hint(
+    alloc: Global,
+    text: &str,
+    names: &str,
+    number: u64,
+) -> Result<String, AllocError> {
+    let options = options_with(alloc, names)?;
+    let dnf = DnfExpr::new(alloc, &predicate(alloc, text)?)?;
+    match dnf.hint_from(alloc, &options, number)? {
+        Some(NumberedHint { number, hint }) => format!(in alloc; "{number} {hint}"),
+        None => format!(in alloc; "none"),
+    }
+}
+
+#[test]
+fn hints_are_found_by_number(rt: HostRuntime) -> Result<(), Fail> {
+    let cases = [
+        ("all ( any ( a , b ) , c )", "", 0, "0 enable a and c"),
+        ("all ( any ( a , b ) , c )", "", 1, "1 enable b and c"),
+        ("all ( any ( a , b ) , c )", "", 2, "none"),
+        ("any ( all ( a , not ( a ) ) , b )", "", 0, "1 enable b"),
+        ("any ( true , false , a )", "", 0, "2 enable a"),
+        ("any ( all ( any ( ) , a ) , b )", "", 0, "0 enable b"),
+        ("not ( all ( a , b ) )", "a b", 1, "1 disable b"),
+        ("a", "a", 0, "none"),
+        ("any ( )", "", 0, "none"),
+    ];
+    for (text, names, number, want) in cases {
+        let got = numbered_hint(rt.alloc(), text, names, number)?;
+        assert!(rt; got.as_str() == want, "{text} from {number}: {got}");
+    }
+    Ok(())
+}
+
+// `all` of `any(c, d)` and so many `any(a, b)`.
+fn choices(alloc: Global, parts: usize) -> Result<String, AllocError> {
+    let parts = "any ( a , b ) , ".repeat(alloc, parts)?;
+    format!(in alloc; "all ( any ( c , d ) , {parts} )")
+}
+
+#[test]
+fn large_numbers_are_not_counted_up_to(rt: HostRuntime) -> Result<(), Fail> {
+    let cases = [
+        (39, 549_755_813_887, "549755813887 enable b and c"),
+        (39, 549_755_813_888, "549755813888 enable a and d"),
+        (39, 1_099_511_627_776, "none"),
+        (39, u64::MAX, "none"),
+        (
+            63,
+            9_223_372_036_854_775_808,
+            "9223372036854775808 enable a and d",
+        ),
+        (
+            70,
+            9_223_372_036_854_775_808,
+            "9223372036854775808 enable a, b and c",
+        ),
+        (70, u64::MAX, "none"),
+    ];
+    for (parts, number, want) in cases {
+        let text = choices(rt.alloc(), parts)?;
+        let got = numbered_hint(rt.alloc(), text.as_str(), "", number)?;
+        assert!(rt; got.as_str() == want, "{parts} parts from {number}: {got}");
+    }
     Ok(())
 }
 

@@ -7,14 +7,13 @@ use Rattle.cfgfmt.specs.declared.refusal.Refusal.{Refusal}
 use Rattle.cfgfmt.specs.declared.refusal.Refusal.TheVariants.{Usage, Syntax, Read, Memory, ArenaFull, TooLong}
 use Rattle.cfgfmt.specs.declared.command.Command.{Command}
 use Rattle.cfgfmt.specs.declared.command.Command.TheVariants.{Run, Generate}
-use Rattle.cfgfmt.specs.Command.{command_of, Asks}
+use Rattle.cfgfmt.specs.Command.{Asks}
 use Rattle.cfgfmt.specs.Session.{IsNew, Answers, Gets, output_of, script_around}
 use Rattle.cfgfmt.specs.Refusal.{status_of, line_of, IsJustified}
 use Rattle.hir_lower.specs.Lowered.{AreMost}
 use Rattle.script.specs.Contents.{Contents}
 use Rattle.script.specs.Limit.{max_script_len}
 use Rattle.script.specs.Script.{IsScript}
-use Rattle.script_generator.specs.Generated.{script_of}
 
 -- The headline. The bytes came as the command asks: of a script that is read, they are all that the source had left. They are a script; the
 -- session has one outcome for each of its calls, in order; and the sink holds what it held before, followed by what the command prints of the
@@ -83,17 +82,10 @@ is_status n = nat_eq n 0 || (nat_eq n 2 || (nat_eq n 3 || (nat_eq n 4 || (nat_eq
 abbrev pub IsSmall : List (List ℕ) → Session → ℕ → Type 0
 IsSmall words session room = (room < 64) ⊎ Asks words (λ command. room < length (output_of command session))
 
--- the bytes of the script that a command asks for, before anything is done
-abbrev pub IsInput : Command → SourceState → List ℕ → Type 0
-IsInput Run source bytes = source.left ≡ Some bytes
-IsInput (Generate n) source bytes = bytes ≡ script_of n
-
--- the words ask for something; what is to be read is known, and is a script that is not too long; and its calls fit into a store
-pub record IsGood (words : List (List ℕ)) (source : SourceState) : Type 0 where
-  pub command : Command
-  pub asked : command_of words ≡ Some command
+-- what is to be read is known, and a script that is not too long; and its calls fit into a store
+pub record IsGoodInput (source : SourceState) : Type 0 where
   pub bytes : List ℕ
-  pub input : IsInput command source bytes
+  pub known : source.left ≡ Some bytes
   pub fits : length bytes ≤ max_script_len
   pub contents : Contents
   pub script : IsScript bytes contents
@@ -101,6 +93,17 @@ pub record IsGood (words : List (List ℕ)) (source : SourceState) : Type 0 wher
   pub are_most : AreMost contents.options (script_around contents) contents.calls most
   pub room : most ≤ 4294967295
 
--- the statuses that come where the input is good: that of success, those of a source and of a sink that fail, and that of want of memory
-abbrev pub is_good_status : ℕ → Bool
-is_good_status n = nat_eq n 0 || (nat_eq n 4 || (nat_eq n 5 || nat_eq n 6))
+-- what a command needs of the source: where a script is read, that it is good; where one is made, nothing
+abbrev pub HasNeeds : SourceState → Command → Type 0
+HasNeeds source Run = IsGoodInput source
+HasNeeds source (Generate n) = Unit {0}
+
+-- the words ask for something, and it has what it needs
+abbrev pub IsGood : List (List ℕ) → SourceState → Type 0
+IsGood words source = Asks words (HasNeeds source)
+
+-- the statuses that then come: that of success, that of a sink that fails, that of want of memory, and, where a script is read, that of a
+-- source that fails
+abbrev pub is_good_status : Command → ℕ → Bool
+is_good_status Run status = nat_eq status 0 || (nat_eq status 4 || (nat_eq status 5 || nat_eq status 6))
+is_good_status (Generate n) status = nat_eq status 0 || (nat_eq status 5 || nat_eq status 6)

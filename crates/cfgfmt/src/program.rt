@@ -217,7 +217,7 @@ fn tell<K: Sink>(alloc: Global, sink: &mut K, refusal: Refusal) -> u8
 /// A status other than 0 comes with a line of its own in place of the output: 2 for other words, 3 where the bytes are no
 /// script, 4 where the source fails, 6 where no memory is left, 8 where an arena of the store is full, 9 where more than
 /// 16,777,216 bytes come. It is 5 where the sink fails. Where several hold, the order is words, reading, length, syntax,
-/// lowering, writing.
+/// lowering, writing. With `gen` and a number it is 0, 5 or 6.
 pub fn run<S: Source, K: Sink>(
     alloc: Global,
     words: &[Symbol],
@@ -244,8 +244,9 @@ pub fn run<S: Source, K: Sink>(
     ensures full { result ≡ 8 → Asks words.now (λ command. HasInput command (S.state source.old) (S.state source.new) OutgrowsArena) }
     ensures too_long { result ≡ 9 → (command_of words.now ≡ Some Run) × TakesCount (S.state source.old) (S.state source.new) (MAX_SCRIPT_LEN + 1) }
 
-    // Where the input is a script whose calls fit into a store, only the outside and want of memory are in the way.
-    ensures complete { IsGood words.now (S.state source.old) → IsTrue (is_good_status result) }
+    // Where the input is a script whose calls fit into a store, only the outside and want of memory are in the way. A script that
+    // is made always is one, and the source is not asked for it.
+    ensures complete { (good : IsGood words.now (S.state source.old)) → IsTrue (is_good_status good.command result) }
 
     // Wrong words are never answered otherwise. Only words that ask for it have the source read. No fault is passed over.
     ensures words { command_of words.now ≡ None → (result ≡ 2) ⊎ (result ≡ 5) }

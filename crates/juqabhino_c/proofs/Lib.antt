@@ -1,1 +1,2 @@
 mod RunAnswers
+mod WordParts

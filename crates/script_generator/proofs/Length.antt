@@ -39,7 +39,7 @@ length_name i below = omega (arith, length-append (decimal i) (codes "}"), few_d
 length_items : (count : ℕ) → count ≤ 1000 → length (items_text count) ≤ 80000
 length_items count few = omega (arith, length_flat item_text 80 0 count (λ i below. length_item i (omega arith)))
 
-length_names : (count : ℕ) → count ≤ 60000 → length (names_text count) ≤ 480000
+pub length_names : (count : ℕ) → count ≤ 60000 → length (names_text count) ≤ 480000
 length_names count few = omega (arith, length_flat name_text 8 0 count (λ i below. length_name i (omega arith)))
 
 -- a made script is no longer than a script may be

@@ -1,0 +1,2 @@
+mod TreeLines
+mod PredicateTexts

@@ -1,0 +1,3 @@
+pub mod Predicate
+pub mod Query
+pub mod Refusals
