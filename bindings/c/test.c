@@ -313,7 +313,7 @@ static void test_long(void) {
     free(texts[i].block);
 }
 
-/* How many bytes the allocator has handed out, or 0 where it does not say. */
+/* How many bytes the allocator has handed out, or 0 where it does not say. With glibc, what a thread keeps for later counts too. */
 static size_t in_use(void) {
 #if defined __GLIBC_PREREQ
 #if __GLIBC_PREREQ(2, 33)
