@@ -10,7 +10,7 @@ fn runs_words(rt: HostRuntime) -> Result<(), Fail> {
         0
     );
     assert!(rt; room.starts_with(b"calls 1\noff 0\ncode 1\nhints 0\nexprs 3\n"));
-    assert_eq!(rt; told, 38);
+    assert_eq!(rt; told, 37);
     assert_eq!(rt;
         juqabhino_run(rt.alloc(), b"\xFF", b"", &mut room, &mut told),
         2
