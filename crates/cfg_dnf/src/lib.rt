@@ -16,8 +16,6 @@ mod numbered;
 mod numbered_hint;
 mod numbers;
 mod reason_text;
-#[cfg(test)]
-mod tests;
 
 pub use dnf::DnfExpr;
 pub use enable_hints::EnableHints;

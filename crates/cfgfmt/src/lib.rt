@@ -2,19 +2,11 @@
 //! The contract of [`run`] says what status 0 means, and why each other status comes.
 #![tactic(auto)]
 
-#[cfg(test)]
-mod callers;
 mod command;
-#[cfg(test)]
-mod hostile;
 mod printing;
 mod program;
 mod refusal;
-#[cfg(test)]
-mod rows;
 mod session;
-#[cfg(test)]
-mod tests;
 
 pub use command::Command;
 pub use hir_expander::MacroTable;

@@ -9,8 +9,6 @@ mod macro_table;
 mod macros;
 mod mark;
 mod reach;
-#[cfg(test)]
-mod tests;
 
 pub use expand_result::{ExpandError, ExpandResult, UnresolvedMacro};
 pub use expander::{Expander, MAX_RECURSION_LIMIT};

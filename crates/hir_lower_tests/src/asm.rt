@@ -1,6 +1,4 @@
-use crate::calls::{ITEMS, SOMEWHERE, collector, some_macros, template};
-use hir_lower::Outcome;
-use printer::print_outcomes;
+use crate::calls::{ITEMS, SOMEWHERE, collector, printed, some_macros, template};
 use ra_cfg::CfgOptions;
 use sqlite_items::Items;
 use std::alloc::{AllocError, Global};
@@ -21,9 +19,11 @@ fn symbol(alloc: Global, text: &str) -> Result<Option<Symbol>, AllocError> {
 
 // `NAME = in(CLASS) LEAF`, where an empty text stands for what is not there.
 fn value_in(alloc: Global, name: &str, class: &str, leaf: u32) -> Result<AsmPiece, AllocError> {
+    let name = symbol(alloc, name)?;
+    let reg = symbol(alloc, class)?.map(AsmRegSyntax::Class);
     let op = AsmOperandSyntax::Reg {
         dir: Some(AsmDir::In),
-        reg: symbol(alloc, class)?.map(AsmRegSyntax::Class),
+        reg,
         exprs: Some(AsmExprs {
             first: Some(AsmExprSyntax::Leaf(LeafSyntax {
                 leaf,
@@ -35,10 +35,7 @@ fn value_in(alloc: Global, name: &str, class: &str, leaf: u32) -> Result<AsmPiec
     };
     Ok(AsmPiece {
         cfgs: Items::new(alloc),
-        kind: AsmPieceKind::Operand {
-            name: symbol(alloc, name)?,
-            op: Some(op),
-        },
+        kind: AsmPieceKind::Operand { name, op: Some(op) },
     })
 }
 
@@ -67,7 +64,7 @@ fn lowers_inline_assembly(rt: HostRuntime) -> Result<(), Fail> {
     let mut collector = collector(alloc, &macros, 128, ITEMS);
     let code = collector.lower_inline_asm(alloc, &call(alloc)?, &options, &macros)?;
     let store = collector.store();
-    let printed = print_outcomes(alloc, store, &options, &[Outcome::Code(code)])?;
+    let printed = printed(alloc, store, code)?;
     let want = "0 code asm!(in(reg) @1)\n0 map 0 2..2 0\n";
     assert_eq!(rt; printed.as_slice(), want.as_bytes());
     assert_eq!(rt; store.exprs.len(), 2);

@@ -1,6 +1,10 @@
+ghost use Rattle.std.specs.Prelude.{◌<◌, length};
+ghost use Rattle.hir_store.specs.Store.{NoDanglingIds};
+ghost use Rattle.hir_store.specs.Unfolding.{place_of};
+
 use hir_expander::{MAX_RECURSION_LIMIT, MacroTable};
 use hir_lower::{ExprCollector, Outcome};
-use hir_store::LangItems;
+use hir_store::{ExprId, ExpressionStore, LangItems};
 use printer::print_outcomes;
 use ra_cfg::CfgOptions;
 use sqlite_items::Items;
@@ -30,6 +34,16 @@ pub(crate) fn template(alloc: Global, text: &str) -> Result<Template, AllocError
     })
 }
 
+// Enters a macro with what it expands to.
+fn define(alloc: Global, table: &mut MacroTable, name: &str, body: &str) -> Result<(), AllocError> {
+    let name = Symbol::new(alloc, name)?;
+    let body = template(alloc, body)?;
+    if table.len() < 4_294_967_295 {
+        table.define(name, Some(body))?;
+    }
+    Ok(())
+}
+
 /// Macros that lead to texts, and one that leads to itself.
 pub(crate) fn some_macros(alloc: Global) -> Result<MacroTable, AllocError> {
     let bodies = [
@@ -41,9 +55,7 @@ pub(crate) fn some_macros(alloc: Global) -> Result<MacroTable, AllocError> {
     ];
     let mut table = MacroTable::new(alloc);
     for (name, body) in bodies {
-        if table.len() < 1_000 {
-            table.define(Symbol::new(alloc, name)?, Some(template(alloc, body)?))?;
-        }
+        define(alloc, &mut table, name, body)?;
     }
     Ok(table)
 }
@@ -112,14 +124,24 @@ pub(crate) fn collector(
     ExprCollector::new(alloc, macros, FileId { raw: 0 }, limit, items)
 }
 
-/// What is printed of a call that a collector lowers first.
+/// How many expressions a call places that is lowered by itself, and what is printed of it.
+pub(crate) fn lowered(alloc: Global, call: &FormatCall) -> Result<(usize, Vec<u8>), Fail> {
+    let macros = MacroTable::new(alloc);
+    let mut collector = collector(alloc, &macros, 128, ITEMS);
+    let code = collector.collect_format_args(alloc, call, &macros)?;
+    let printed = printed(alloc, collector.store(), code)?;
+    Ok((collector.store().exprs.len(), printed))
+}
+
+/// What is printed of code in a store.
 pub(crate) fn printed(
     alloc: Global,
-    macros: &MacroTable,
-    collector: &mut ExprCollector,
-    call: &FormatCall,
-) -> Result<Vec<u8>, Fail> {
-    let code = collector.collect_format_args(alloc, call, macros)?;
+    store: &ExpressionStore,
+    code: ExprId,
+) -> Result<Vec<u8>, AllocError>
+    requires no_dangling { NoDanglingIds store.now }
+    requires within { place_of code < length store.now.exprs }
+{
     let options = CfgOptions::new(alloc)?;
-    Ok(print_outcomes(alloc, collector.store(), &options, &[Outcome::Code(code)])?)
+    print_outcomes(alloc, store, &options, &[Outcome::Code(code)])
 }

@@ -1,18 +1,26 @@
-use crate::calls::{ITEMS, collector, format_call};
-use hir_expander::MacroTable;
-use std::alloc::Global;
+use crate::calls::{format_call, lowered};
+use std::alloc::{AllocError, Global};
 use std::test::Fail;
+use syn_trees::FormatCall;
 
-// How many expressions a call places that has the same placeholder so many times over so many leaves.
-fn placed(alloc: Global, placeholder: &str, times: usize, leaves: usize) -> Result<usize, Fail> {
+// A call that has the same placeholder so many times over so many leaves.
+fn repeated(
+    alloc: Global,
+    placeholder: &str,
+    times: usize,
+    leaves: usize,
+) -> Result<FormatCall, AllocError> {
     let text = placeholder.repeat(alloc, times)?;
     let token = format!(in alloc; "\"{text}\"")?;
     let words = "1 ".repeat(alloc, leaves)?;
-    let macros = MacroTable::new(alloc);
-    let call = format_call(alloc, token.as_str(), words.as_str())?;
-    let mut collector = collector(alloc, &macros, 128, ITEMS);
-    collector.collect_format_args(alloc, &call, &macros)?;
-    Ok(collector.store().exprs.len())
+    format_call(alloc, token.as_str(), words.as_str())
+}
+
+// How many expressions such a call places.
+fn placed(alloc: Global, placeholder: &str, times: usize, leaves: usize) -> Result<usize, Fail> {
+    let call = repeated(alloc, placeholder, times, leaves)?;
+    let (placed, _) = lowered(alloc, &call)?;
+    Ok(placed)
 }
 
 // For n arguments and p pairs 2n + 4p + 9.

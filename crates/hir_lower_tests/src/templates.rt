@@ -3,19 +3,17 @@ ghost use Rattle.hir_store.specs.PartsBelow.{AllBelow};
 ghost use Rattle.hir_fmt.specs.Arguments.{AreExplicit};
 ghost use Rattle.hir_lower.specs.FormatArgs.{exprs_of};
 
-use crate::calls::{ITEMS, SOMEWHERE, collector, format_call, printed};
+use crate::calls::{ITEMS, SOMEWHERE, collector, format_call, lowered, printed};
 use crate::captures::Silent;
 use hir_expander::MacroTable;
 use hir_fmt::{FormatArgs, FormatArgument, FormatArgumentKind, FormatArgumentsCollector, parse};
-use hir_lower::Outcome;
+use hir_lower::ExprCollector;
 use hir_store::ExprId;
 use la_arena::RawIdx;
-use printer::print_outcomes;
-use ra_cfg::CfgOptions;
 use std::alloc::{AllocError, Global};
 use std::test::Fail;
 use sym_core::Symbol;
-use syn_trees::StringLit;
+use syn_trees::{FormatCall, StringLit};
 
 // So many written arguments, which are the first expressions of a store.
 fn written(alloc: Global, count: u32) -> Result<FormatArgumentsCollector, AllocError>
@@ -66,31 +64,49 @@ fn are_within(limit: usize, ids: &[ExprId]) -> bool
     }
 }
 
-// What is printed of a template that is lowered by itself, over the leaves 1 and 2 of an earlier call or the first of them.
-fn printed_template(alloc: Global, token: &str, count: u32) -> Result<Vec<u8>, Fail> {
-    let macros = MacroTable::new(alloc);
-    let mut collector = collector(alloc, &macros, 128, ITEMS);
-    let earlier = format_call(alloc, "\"\"", "1 2")?;
-    collector.collect_format_args(alloc, &earlier, &macros)?;
-    let fmt = parsed(alloc, token, count)?;
+// Whether all that a template refers to is among the first so many expressions.
+fn fits(limit: usize, fmt: &FormatArgs) -> bool
+    ensures arguments { IsTrue result → AllBelow limit (exprs_of fmt.now.arguments.arguments) }
+    ensures orphans { IsTrue result → AllBelow limit fmt.now.orphans }
+{
+    have_place(limit, fmt.arguments.arguments.as_slice())
+        && are_within(limit, fmt.orphans.as_slice())
+}
+
+// What is printed of a template that is lowered by itself, where all that it refers to is in the store.
+fn printed_in(
+    alloc: Global,
+    collector: &mut ExprCollector,
+    fmt: FormatArgs,
+) -> Result<Vec<u8>, Fail> {
     let limit = collector.store().exprs.len();
-    if !have_place(limit, fmt.arguments.arguments.as_slice()) {
+    if !fits(limit, &fmt) {
         return Err(Fail::new("an argument is not in the store"));
     }
-    if !are_within(limit, fmt.orphans.as_slice()) {
-        return Err(Fail::new("an orphan is not in the store"));
-    }
     let code = collector.collect_format_args_impl(alloc, SOMEWHERE, fmt)?;
-    let options = CfgOptions::new(alloc)?;
-    Ok(print_outcomes(alloc, collector.store(), &options, &[Outcome::Code(code)])?)
+    Ok(printed(alloc, collector.store(), code)?)
+}
+
+// What is printed of a template that is lowered by itself, behind an earlier call.
+fn printed_behind(alloc: Global, earlier: &FormatCall, fmt: FormatArgs) -> Result<Vec<u8>, Fail> {
+    let macros = MacroTable::new(alloc);
+    let mut collector = collector(alloc, &macros, 128, ITEMS);
+    collector.collect_format_args(alloc, earlier, &macros)?;
+    printed_in(alloc, &mut collector, fmt)
+}
+
+// What is printed of a template over the leaves 1 and 2 of an earlier call, or the first of them.
+fn printed_template(alloc: Global, token: &str, count: u32) -> Result<Vec<u8>, Fail> {
+    let earlier = format_call(alloc, "\"\"", "1 2")?;
+    let fmt = parsed(alloc, token, count)?;
+    printed_behind(alloc, &earlier, fmt)
 }
 
 // What is printed of a whole call.
 fn printed_call(alloc: Global, token: &str, words: &str) -> Result<Vec<u8>, Fail> {
-    let macros = MacroTable::new(alloc);
     let call = format_call(alloc, token, words)?;
-    let mut collector = collector(alloc, &macros, 128, ITEMS);
-    printed(alloc, &macros, &mut collector, &call)
+    let (_, printed) = lowered(alloc, &call)?;
+    Ok(printed)
 }
 
 // A template that is lowered by itself gives the code of a call of it.

@@ -49,17 +49,3 @@ impl Flags for AsmOptions {
         AsmOptions(bits)
     }
 }
-
-#[cfg(test)]
-mod tests {
-    use super::*;
-
-    #[test]
-    fn collects_options(rt: HostRuntime) {
-        let options = AsmOptions::PURE.union(AsmOptions::NOMEM);
-        assert!(rt; options.contains(AsmOptions::NOMEM));
-        assert!(rt; !options.contains(AsmOptions::RAW));
-        assert_eq!(rt; options.bits(), 68);
-        assert_eq!(rt; AsmOptions::empty().bits(), 0);
-    }
-}

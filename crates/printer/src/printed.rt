@@ -179,6 +179,3 @@ fn push_use_line(
 {
     writeln!(out, "{number} use {name} {}..{}", range.start, range.end)
 }
-
-#[cfg(test)]
-mod tests;

@@ -5,8 +5,6 @@
 mod laws;
 mod reading;
 mod script;
-#[cfg(test)]
-mod tests;
 
 pub use laws::one_script;
 pub use script::{MAX_SCRIPT_LEN, Script, ScriptError, end_last_line, read_ended, read_script};

@@ -4,8 +4,6 @@
 mod asm;
 mod asm_operand;
 mod asm_piece;
-#[cfg(test)]
-mod asm_tests;
 mod asm_word;
 mod item;
 mod keyword;

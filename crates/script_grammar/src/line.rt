@@ -221,20 +221,3 @@ pub fn read_item<'a>(
 {
     Ok(end_item(item(alloc, here, ptr)?))
 }
-
-#[cfg(test)]
-mod tests {
-    use super::*;
-    use std::test::Fail;
-    use text_cut::begin;
-
-    // The example of `read_item`.
-    #[test]
-    fn reads_an_item(rt: HostRuntime) -> Result<(), Fail> {
-        let found = read_item(rt.alloc(), begin("opt unix\n"), AstPtr { node: 0 })?;
-        let (item, end) = found.expect(&rt, "an option");
-        assert!(rt; matches!(item, Item::Flag(_)));
-        assert_eq!(rt; end.at, 9);
-        Ok(())
-    }
-}

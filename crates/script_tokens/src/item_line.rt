@@ -25,23 +25,3 @@ pub fn end_item<'a, I: Drop>(read: Option<(I, Cursor<'a>)>) -> Option<(I, Cursor
     let end = line_end(after)?;
     Some((item, end))
 }
-
-#[cfg(test)]
-mod tests {
-    use super::*;
-    use crate::reader::word;
-    use text_cut::begin;
-
-    #[test]
-    fn ends_items(rt: HostRuntime) {
-        let (item, end) = end_item(word(begin("unix\n"))).expect(&rt, "a line of one word");
-        assert_eq!(rt; item, "unix", "the word");
-        assert_eq!(rt; end.at, 5, "behind the line");
-        assert!(rt; end_item(word(begin(" # unix\n"))).is_none(), "a comment");
-        assert!(rt;
-            end_item(word(begin("more = 1\n"))).is_none(),
-            "tokens are left"
-        );
-        assert!(rt; end_item(word(begin("unix"))).is_none(), "no line feed");
-    }
-}

@@ -2,8 +2,6 @@
 //! Each answer that blames the outside has its cause in a count of faults.
 #![tactic(auto)]
 
-#[cfg(test)]
-mod callers;
 mod memory;
 mod read_write;
 mod sink;

@@ -1,0 +1,7 @@
+//! Tests of `fmt_parse` through its public calls. They stand in a crate of their own because a crate with tests is proved twice.
+#![tactic(auto)]
+
+#[cfg(test)]
+mod asm;
+#[cfg(test)]
+mod format;

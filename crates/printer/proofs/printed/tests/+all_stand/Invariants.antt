@@ -1,5 +1,0 @@
-use Rattle.std.proofs.Common.{length}
-use Rattle.printer.proofs.printed.tests.+all_stand.Given as goal
-
-abbrev pub decreases-all_stand : goal.decreases-all_stand
-decreases-all_stand l = length l.ids.now

@@ -1,5 +1,0 @@
-use Rattle.hir_store.proofs.Entered.{no_dangling_entered}
-use Rattle.printer.proofs.printed.tests.note_usages.Goals as goal
-
-pub returns : goal.returns
-returns c = rw c.in_ok-insert.ensures.entered (no_dangling_entered _ _ _ c.requires.within c.requires.no_dangling)
