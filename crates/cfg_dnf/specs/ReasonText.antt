@@ -1,12 +1,12 @@
 -- How a reason is written.
-use Rattle.std.specs.Prelude.{ℕ, List, [], ◌∷◌, ◌++◌, codes, refl}
+use Rattle.std.specs.Prelude.{◌≡◌, ℕ, List, [], ◌∷◌, ◌++◌, codes, refl}
 use Rattle.std.specs.Coded.{Coded, code_by, coded×, coded_list}
 use Rattle.std.specs.List.Sorted.{IsStrictlySortedBy}
 use Rattle.ra_cfg.specs.contracts.cfg_expr.CfgAtom as atom
 use Rattle.ra_cfg.specs.declared.cfg_expr.CfgAtom.{CfgAtom}
 use Rattle.ra_cfg.specs.Options.{atom_cmp}
 use Rattle.ra_cfg.specs.Text.{atoms_text}
-use Rattle.cfg_dnf.specs.Hints.{Reason}
+use Rattle.cfg_dnf.specs.Hints.{Reason, in_order}
 
 -- `is` for one atom, `are` for more
 abbrev pub verb : List CfgAtom → List ℕ
@@ -38,3 +38,8 @@ reason_code =
 pub record IsReason (reason : Reason) : Type 0 where
   pub enabled : IsStrictlySortedBy atom_cmp reason.enabled
   pub disabled : IsStrictlySortedBy atom_cmp reason.disabled
+
+-- a reason has these atoms, put in order, each once
+pub record IsReasonOf (enabled disabled : List CfgAtom) (reason : Reason) : Type 0 where
+  pub enabled_are : reason.enabled ≡ in_order enabled
+  pub disabled_are : reason.disabled ≡ in_order disabled

@@ -2,7 +2,8 @@ ghost use Rattle.std.specs.Prelude.{◌≡◌, ◌∷◌, ◌++◌, false, codes
 ghost use Rattle.ra_cfg.specs.Text.{call_text};
 ghost use Rattle.cfg_dnf.specs.DnfText.{dnf_text, texts_ahead};
 ghost use Rattle.cfg_dnf.specs.Form.{form, paths, behind};
-ghost use Rattle.cfg_dnf.specs.Hints.{in_order, hints, reason};
+ghost use Rattle.cfg_dnf.specs.Hints.{hints, reason};
+ghost use Rattle.cfg_dnf.specs.ReasonText.{IsReasonOf};
 ghost use Rattle.cfg_dnf.specs.Walking.{IsStanding, StandsAt, left_of};
 ghost use Rattle.cfg_dnf.specs.Joined.{joined};
 ghost use Rattle.cfg_dnf.specs.Numbered.{hint_from};
@@ -15,9 +16,10 @@ use crate::inactive_reason::InactiveReason;
 use crate::numbered::first_from;
 use crate::numbered_hint::NumberedHint;
 use ra_cfg::{CfgExpr, CfgOptions};
-use sqlite_items::Items;
+use sqlite_items::{Boxed, Items};
 use std::alloc::{AllocError, Global};
 use std::marker::Model;
+use std::mem::size_of;
 use sym_core::Symbol;
 
 /// A predicate as a list of conjunctions, each a list of literals. The list is not stored: a walk over the predicate goes
@@ -32,8 +34,10 @@ use sym_core::Symbol;
 /// ```
 #[derive(Debug, Drop)]
 pub struct DnfExpr {
-    pub(crate) expr: CfgExpr,
+    expr: Boxed<CfgExpr>,
 }
+
+const _: () = prove!(size_of::<DnfExpr>() == 8);
 
 impl Model for DnfExpr {
     ghost use Rattle.ra_cfg.specs.contracts.cfg_expr.CfgExpr.{the_row};
@@ -55,7 +59,7 @@ impl DnfExpr {
     pub fn new(alloc: Global, expr: &CfgExpr) -> Result<DnfExpr, AllocError>
         ensures { IfOk result (λ dnf. dnf ≡ expr.now) }
     {
-        let expr = expr.try_clone(alloc)?;
+        let expr = Boxed::new(alloc, expr.try_clone(alloc)?)?;
         Ok(DnfExpr { expr })
     }
 
@@ -70,10 +74,18 @@ impl DnfExpr {
         match cfgs {
             [only] => DnfExpr::new(alloc, only),
             _ => {
-                let expr = CfgExpr::All(copies(alloc, cfgs)?);
+                let all = CfgExpr::All(copies(alloc, cfgs)?);
+                let expr = Boxed::new(alloc, all)?;
                 Ok(DnfExpr { expr })
             }
         }
+    }
+
+    // The predicate itself.
+    fn expr(&self) -> &CfgExpr
+        ensures { result.now ≡ self.now }
+    {
+        self.expr.get()
     }
 
     /// Returns why the predicate is off: the atoms of all false literals of its conjunctions. There is no reason where the
@@ -89,14 +101,16 @@ impl DnfExpr {
     ) -> Result<Option<InactiveReason>, AllocError>
         ensures { IfOk result (λ found. found ≡ reason opts.now self.now) }
     {
-        if is_true(&self.expr, false, opts) {
+        let expr = self.expr();
+        if is_true(expr, false, opts) {
             return Ok(None);
         }
         let mut found = FalseAtoms::new(alloc);
-        if !gather(&self.expr, false, opts, &mut found)? {
+        if !gather(expr, false, opts, &mut found)? {
             return Ok(None);
         }
-        Ok(Some(reason_of(found)))
+        let reason = reason_of(alloc, found)?;
+        Ok(Some(reason))
     }
 
     /// Returns the hints that switch the predicate on, one for each conjunction that gives one: each, applied to the options,
@@ -109,7 +123,7 @@ impl DnfExpr {
         ensures standing { IsStanding result }
         ensures left { left_of result ≡ hints opts.now self.now }
     {
-        EnableHints::new(alloc, &self.expr, opts)
+        EnableHints::new(alloc, self.expr(), opts)
     }
 
     /// Returns the first hint among the conjunctions of this number and of larger ones, with the number of its conjunction.
@@ -136,7 +150,7 @@ impl DnfExpr {
     ) -> Result<Option<NumberedHint>, AllocError>
         ensures { IfOk result (λ found. found ≡ hint_from opts.now self.now number) }
     {
-        first_from(alloc, &self.expr, opts, number)
+        first_from(alloc, self.expr(), opts, number)
     }
 
     /// Returns the predicate as its conjunctions: a single one alone, and none or several in `any(..)`; in a conjunction a
@@ -153,15 +167,16 @@ impl DnfExpr {
     pub fn text(&self, alloc: Global) -> Result<Symbol, AllocError>
         ensures { IfOk result (λ text. text ≡ dnf_text self.now) }
     {
+        let expr = self.expr();
         let mut choices = Vec::new(alloc);
-        if !first_choices(&self.expr, false, &mut choices)? {
+        if !first_choices(expr, false, &mut choices)? {
             return Symbol::new(alloc, "any()");
         }
-        let first = chosen_text(alloc, &self.expr, choices.as_slice())?;
-        if !next_choices(&self.expr, false, &mut choices, 0)? {
+        let first = chosen_text(alloc, expr, choices.as_slice())?;
+        if !next_choices(expr, false, &mut choices, 0)? {
             return Symbol::new(alloc, first.as_str());
         }
-        let texts = more_text(alloc, &self.expr, first, choices)?;
+        let texts = more_text(alloc, expr, first, choices)?;
         let whole = any_text(alloc, texts.as_str())?;
         Symbol::new(alloc, whole.as_str())
     }
@@ -179,12 +194,11 @@ fn copies(alloc: Global, cfgs: &[CfgExpr]) -> Result<Items<CfgExpr>, AllocError>
 }
 
 // The reason of the atoms of false literals.
-fn reason_of(found: FalseAtoms) -> InactiveReason
-    ensures enabled { result.enabled ≡ in_order found.enabled.items }
-    ensures disabled { result.disabled ≡ in_order found.disabled.items }
+fn reason_of(alloc: Global, found: FalseAtoms) -> Result<InactiveReason, AllocError>
+    ensures { IfOk result (λ reason. IsReasonOf found.enabled.items found.disabled.items reason) }
 {
     let FalseAtoms { enabled, disabled } = found;
-    InactiveReason::new(enabled, disabled)
+    InactiveReason::new(alloc, enabled, disabled)
 }
 
 // The texts of the conjunctions from these choices on, behind a first text, each behind `, `.

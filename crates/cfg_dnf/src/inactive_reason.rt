@@ -1,11 +1,14 @@
-ghost use Rattle.std.specs.Prelude.{◌≡◌};
+ghost use Rattle.std.specs.Prelude.{◌≡◌, IfOk};
 ghost use Rattle.cfg_dnf.specs.Hints.{in_order};
-ghost use Rattle.cfg_dnf.specs.ReasonText.{IsReason};
+ghost use Rattle.cfg_dnf.specs.ReasonText.{IsReason, IsReasonOf};
 
 use crate::reason_text::write_reason;
 use ra_cfg::CfgAtom;
+use sqlite_items::Boxed;
+use std::alloc::{AllocError, Global};
 use std::fmt;
 use std::marker::Model;
+use std::mem::size_of;
 
 /// Why a predicate is off: atoms that are enabled and would have to be off, and atoms that are disabled and would have to be
 /// on. It may be enough to change some of them.
@@ -17,6 +20,14 @@ use std::marker::Model;
 /// ```
 #[derive(Debug, Drop)]
 pub struct InactiveReason {
+    atoms: Boxed<ReasonAtoms>,
+}
+
+const _: () = prove!(size_of::<InactiveReason>() == 8);
+
+// What a reason holds, behind one pointer, so that an outcome is small.
+#[derive(Debug, Drop)]
+struct ReasonAtoms {
     enabled: Vec<CfgAtom>,
     disabled: Vec<CfgAtom>,
 }
@@ -29,9 +40,9 @@ impl Model for InactiveReason {
 
     ghost coded = { reason_code };
 
-    ghost view = { λ r. record { enabled = r.enabled.items; disabled = r.disabled.items } };
+    ghost view = { λ r. record { enabled = r.atoms.enabled.items; disabled = r.atoms.disabled.items } };
 
-    ghost invariant = { λ r. IsReason (record { enabled = r.enabled.items; disabled = r.disabled.items }) };
+    ghost invariant = { λ r. IsReason (record { enabled = r.atoms.enabled.items; disabled = r.atoms.disabled.items }) };
 }
 
 impl fmt::Display for InactiveReason {
@@ -41,20 +52,24 @@ impl fmt::Display for InactiveReason {
     ghost output = { λ reason. Some (reason_text reason.enabled reason.disabled) };
 
     fn fmt<W: fmt::Write>(&self, f: &mut fmt::Formatter<W>) -> fmt::Result {
-        write_reason(&self.enabled, &self.disabled, f)
+        let atoms = self.atoms.get();
+        write_reason(&atoms.enabled, &atoms.disabled, f)
     }
 }
 
 impl InactiveReason {
     /// Makes a reason of these atoms, in order and each once.
-    pub(crate) fn new(enabled: Vec<CfgAtom>, disabled: Vec<CfgAtom>) -> InactiveReason
-        ensures enabled { result.enabled ≡ in_order enabled.items }
-        ensures disabled { result.disabled ≡ in_order disabled.items }
+    pub(crate) fn new(
+        alloc: Global,
+        enabled: Vec<CfgAtom>,
+        disabled: Vec<CfgAtom>,
+    ) -> Result<InactiveReason, AllocError>
+        ensures { IfOk result (λ reason. IsReasonOf enabled.items disabled.items reason) }
     {
-        InactiveReason {
-            enabled: sorted(enabled),
-            disabled: sorted(disabled),
-        }
+        let enabled = sorted(enabled);
+        let disabled = sorted(disabled);
+        let atoms = Boxed::new(alloc, ReasonAtoms { enabled, disabled })?;
+        Ok(InactiveReason { atoms })
     }
 
     /// Returns the atoms that are enabled, in order. The type has an example.
@@ -62,7 +77,7 @@ impl InactiveReason {
         ensures value { result.now ≡ self.now.enabled }
         ensures is_reason { IsReason self.now }
     {
-        self.enabled.as_slice()
+        self.atoms.get().enabled.as_slice()
     }
 
     /// Returns the atoms that are disabled, in order. The type has an example.
@@ -70,7 +85,7 @@ impl InactiveReason {
         ensures value { result.now ≡ self.now.disabled }
         ensures is_reason { IsReason self.now }
     {
-        self.disabled.as_slice()
+        self.atoms.get().disabled.as_slice()
     }
 }
 

@@ -153,13 +153,14 @@ fn args<'a>(
     ensures end { IfOk result (λ r. end r.1 ≡ end here.entry) }
     ensures fewer { IfOk result (λ r. length (ahead r.1) ≤ length (ahead here.entry)) }
 {
-    let mut args = Items::new(alloc);
+    let mut args = Vec::new(alloc);
     let mut after = here;
     while let Some((arg, behind)) = arg(alloc, after, ptr)? {
         args.push(arg)?;
         after = behind;
     }
-    Ok((args, after))
+    args.shrink_to_fit();
+    Ok((Items::from_vec(args), after))
 }
 
 /// A call with this pointer: a template, and as many arguments as stand behind it.

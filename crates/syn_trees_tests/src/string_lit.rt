@@ -1,3 +1,5 @@
+ghost use Rattle.std.specs.Prelude.{◌≤◌};
+
 use std::alloc::{AllocError, Global};
 use std::test::Fail;
 use sym_core::{Symbol, TextRange};

@@ -7,7 +7,7 @@ use Rattle.script_grammar.proofs.template.args.Given as goal
 -- these arguments were read from the start on
 abbrev pub invariant-loop-args : goal.invariant-loop-args
 invariant-loop-args l = record {
-  so_far : ManySoFar (arg l.fn.ptr.node) (ahead l.fn.here) l.args (ahead l.after);
+  so_far : ManySoFar (arg l.fn.ptr.node) (ahead l.fn.here) l.args.items (ahead l.after);
   same_end : end l.after ≡ end l.fn.here;
   fewer : length (ahead l.after) ≤ length (ahead l.fn.here);
 }

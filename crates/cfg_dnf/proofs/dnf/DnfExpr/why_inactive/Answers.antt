@@ -5,12 +5,12 @@ use Rattle.cfg_dnf.proofs.Reasoned.{none_where_true, none_where_open, some_gathe
 use Rattle.cfg_dnf.proofs.dnf.DnfExpr.why_inactive.Goals as goal
 
 pub returns-then-is_true : goal.returns-then-is_true
-returns-then-is_true c = subst (λ (e : CfgExpr). None ≡ reason c.args.opts.now e) c.self.view_is (none_where_true c.args.opts.now c.self.inside.expr _ c.is_true.ensures c.if-is_true.true)
+returns-then-is_true c = subst (λ (e : CfgExpr). None ≡ reason c.args.opts.now e) c.expr-expr.ensures (none_where_true c.args.opts.now c.expr-expr.result.now _ c.is_true.ensures c.if-is_true.true)
 
 pub returns-then-not-branch : goal.returns-then-not-branch
-returns-then-not-branch c = subst (λ (e : CfgExpr). None ≡ reason c.args.opts.now e) c.self.view_is (none_where_open c.args.opts.now c.self.inside.expr _ _ _ c.if-not-branch.true c.in_ok-gather.ensures)
+returns-then-not-branch c = subst (λ (e : CfgExpr). None ≡ reason c.args.opts.now e) c.expr-expr.ensures (none_where_open c.args.opts.now c.expr-expr.result.now _ _ _ c.if-not-branch.true c.in_ok-gather.ensures)
 
 pub returns : goal.returns
 returns c =
-    subst (λ (e : CfgExpr). Some c.reason_of.result ≡ reason c.args.opts.now e) c.self.view_is
-    (some_gathered c.args.opts.now c.self.inside.expr _ _ _ _ c.reason_of.result c.is_true.ensures c.if-is_true.false c.if-not-branch.false c.in_ok-gather.ensures c.new-found.ensures.enabled c.new-found.ensures.disabled c.reason_of.ensures.enabled c.reason_of.ensures.disabled)
+    subst (λ (e : CfgExpr). Some c.in_ok-reason.reason ≡ reason c.args.opts.now e) c.expr-expr.ensures
+    (some_gathered c.args.opts.now c.expr-expr.result.now _ _ _ _ c.in_ok-reason.reason c.is_true.ensures c.if-is_true.false c.if-not-branch.false c.in_ok-gather.ensures c.new-found.ensures.enabled c.new-found.ensures.disabled c.in_ok-reason.ensures.enabled_are c.in_ok-reason.ensures.disabled_are)
