@@ -51,14 +51,13 @@ fn mark(ch: char, spacing: Spacing) -> TokenTree {
 
 // `==` stands for a `=` with a mark directly behind it, and a number for a literal.
 fn tree(alloc: Global, word: &str) -> Result<TokenTree, AllocError> {
+    let text = Symbol::new(alloc, word)?;
     Ok(match word {
         "," => mark(',', Spacing::Alone),
         "=" => mark('=', Spacing::Alone),
         "==" => mark('=', Spacing::Joint),
-        "5" | "6" => TokenTree::Literal(TtLiteral {
-            text: Symbol::new(alloc, word)?,
-        }),
-        _ => TokenTree::Ident(Symbol::new(alloc, word)?),
+        "5" | "6" => TokenTree::Literal(TtLiteral { text }),
+        _ => TokenTree::Ident(text),
     })
 }
 
@@ -146,10 +145,23 @@ fn token_trees_are_read_by_the_rules(rt: HostRuntime) -> Result<(), Fail> {
     Ok(())
 }
 
+// Options with the flag `a`, the value 5 of `k`, and an answer for the version 5.
+fn options_and_a_version(alloc: Global) -> Result<CfgOptions, AllocError> {
+    let mut options = options_with(alloc, "a k=5")?;
+    let version = Symbol::new(alloc, "5")?;
+    options.set_version(version, true)?;
+    Ok(options)
+}
+
+// What the first predicate of these words reads.
+fn reading(alloc: Global, options: &CfgOptions, text: &str) -> Result<Option<bool>, AllocError> {
+    let expr = predicate(alloc, text)?;
+    Ok(options.check(&expr))
+}
+
 #[test]
 fn predicates_are_evaluated_from_the_left(rt: HostRuntime) -> Result<(), Fail> {
-    let mut options = options_with(rt.alloc(), "a k=5")?;
-    options.set_version(Symbol::new(rt.alloc(), "5")?, true)?;
+    let options = options_and_a_version(rt.alloc())?;
     let cases = [
         ("a", Some(true)),
         ("b", Some(false)),
@@ -177,11 +189,7 @@ fn predicates_are_evaluated_from_the_left(rt: HostRuntime) -> Result<(), Fail> {
         ("version ( 6 )", None),
     ];
     for (text, want) in cases {
-        assert_eq!(rt;
-            options.check(&predicate(rt.alloc(), text)?),
-            want,
-            "{text}"
-        );
+        assert_eq!(rt; reading(rt.alloc(), &options, text)?, want, "{text}");
     }
     Ok(())
 }
@@ -240,35 +248,74 @@ fn reserved_atoms_are_not_inserted(rt: HostRuntime) -> Result<(), Fail> {
     Ok(())
 }
 
+// The answer for the version 1.70 where each of these was given for it, one after the other.
+fn answer_after(alloc: Global, answers: &[bool]) -> Result<Option<bool>, AllocError> {
+    let mut options = CfgOptions::new(alloc)?;
+    for answer in answers {
+        let version = Symbol::new(alloc, "1.70")?;
+        options.set_version(version, *answer)?;
+    }
+    Ok(options.version("1.70"))
+}
+
+// Options with this answer for the version 1.70.
+fn options_with_version(alloc: Global, answer: bool) -> Result<CfgOptions, AllocError> {
+    let mut options = CfgOptions::new(alloc)?;
+    let version = Symbol::new(alloc, "1.70")?;
+    options.set_version(version, answer)?;
+    Ok(options)
+}
+
+// The answer for a version, where it was no before and options that say yes are taken in.
+fn answer_taken_in(alloc: Global, version: &str) -> Result<Option<bool>, AllocError> {
+    let mut options = options_with_version(alloc, false)?;
+    options.append(options_with_version(alloc, true)?)?;
+    Ok(options.version(version))
+}
+
 #[test]
 fn later_answers_replace_older_ones(rt: HostRuntime) -> Result<(), Fail> {
-    let mut options = CfgOptions::new(rt.alloc())?;
-    options.set_version(Symbol::new(rt.alloc(), "1.70")?, true)?;
-    assert_eq!(rt; options.version("1.70"), Some(true));
-    options.set_version(Symbol::new(rt.alloc(), "1.70")?, false)?;
-    assert_eq!(rt; options.version("1.70"), Some(false));
-    assert_eq!(rt; options.version("1.7"), None);
-    let mut later = CfgOptions::new(rt.alloc())?;
-    later.set_version(Symbol::new(rt.alloc(), "1.70")?, true)?;
-    options.append(later)?;
-    assert_eq!(rt; options.version("1.70"), Some(true));
+    assert_eq!(rt; answer_after(rt.alloc(), &[])?, None);
+    assert_eq!(rt; answer_after(rt.alloc(), &[true])?, Some(true));
+    assert_eq!(rt; answer_after(rt.alloc(), &[true, false])?, Some(false));
+    assert_eq!(rt; answer_taken_in(rt.alloc(), "1.70")?, Some(true));
+    assert_eq!(rt; answer_taken_in(rt.alloc(), "1.7")?, None);
     Ok(())
+}
+
+// Whether the options are those into which the flag `a` alone was inserted.
+fn is_a_alone(alloc: Global, options: &CfgOptions) -> Result<bool, AllocError> {
+    let mut want = CfgOptions::new(alloc)?;
+    let name = Symbol::new(alloc, "a")?;
+    want.insert_atom(name)?;
+    Ok(*options == want)
+}
+
+// Options that take in the atoms that these words spell.
+fn extended(alloc: Global, words: &str) -> Result<CfgOptions, AllocError> {
+    let mut options = CfgOptions::new(alloc)?;
+    options.extend(atoms(alloc, words)?)?;
+    Ok(options)
+}
+
+// A copy of options that take in others.
+fn appended(alloc: Global, words: &str) -> Result<CfgOptions, AllocError> {
+    let mut options = CfgOptions::new(alloc)?;
+    options.append(options_with(alloc, words)?)?;
+    options.shrink_to_fit()?;
+    options.try_clone(alloc)
 }
 
 #[test]
 fn more_atoms_are_taken_in(rt: HostRuntime) -> Result<(), Fail> {
-    let mut want = CfgOptions::new(rt.alloc())?;
-    want.insert_atom(Symbol::new(rt.alloc(), "a")?)?;
     let made = options_with(rt.alloc(), "a true")?;
-    assert!(rt; made == want);
-    let mut extended = CfgOptions::new(rt.alloc())?;
-    assert!(rt; extended != want);
-    extended.extend(atoms(rt.alloc(), "false a")?)?;
-    assert!(rt; extended == want);
-    let mut appended = CfgOptions::new(rt.alloc())?;
-    appended.append(made)?;
-    appended.shrink_to_fit()?;
-    assert!(rt; appended.try_clone(rt.alloc())? == want);
+    assert!(rt; is_a_alone(rt.alloc(), &made)?);
+    let none = extended(rt.alloc(), "")?;
+    assert!(rt; !is_a_alone(rt.alloc(), &none)?);
+    let extended = extended(rt.alloc(), "false a")?;
+    assert!(rt; is_a_alone(rt.alloc(), &extended)?);
+    let appended = appended(rt.alloc(), "a true")?;
+    assert!(rt; is_a_alone(rt.alloc(), &appended)?);
     Ok(())
 }
 
@@ -358,16 +405,33 @@ fn hash_of(expr: &CfgExpr) -> u64 {
     state.finish()
 }
 
+// Whether two predicates are equal, and whether they have the same hash.
+fn alike(left: &CfgExpr, right: &CfgExpr) -> (bool, bool) {
+    (is_equal(left, right), hash_of(left) == hash_of(right))
+}
+
+// How a predicate is to its copy.
+fn alike_copied(alloc: Global, text: &str) -> Result<(bool, bool), AllocError> {
+    let original = predicate(alloc, text)?;
+    let copy = original.try_clone(alloc)?;
+    Ok(alike(&original, &copy))
+}
+
+// How the predicates of two texts are to one another.
+fn alike_texts(alloc: Global, left: &str, right: &str) -> Result<(bool, bool), AllocError> {
+    let left = predicate(alloc, left)?;
+    let right = predicate(alloc, right)?;
+    Ok(alike(&left, &right))
+}
+
 #[test]
 fn predicates_are_copied_and_compared(rt: HostRuntime) -> Result<(), Fail> {
-    let original = predicate(rt.alloc(), "not ( all ( , a version ( 5 ) ) )")?;
-    let copy = original.try_clone(rt.alloc())?;
-    assert!(rt; is_equal(&original, &copy));
-    assert_eq!(rt; hash_of(&original), hash_of(&copy));
-    let other = predicate(rt.alloc(), "not ( all ( , b version ( 5 ) ) )")?;
-    assert!(rt; !is_equal(&original, &other));
-    assert!(rt; hash_of(&original) != hash_of(&other));
-    assert!(rt; CfgExpr::All(Items::new(rt.alloc())) != CfgExpr::Any(Items::new(rt.alloc())));
+    let text = "not ( all ( , a version ( 5 ) ) )";
+    let other = "not ( all ( , b version ( 5 ) ) )";
+    let alloc = rt.alloc();
+    assert_eq!(rt; alike_copied(alloc, text)?, (true, true));
+    assert_eq!(rt; alike_texts(alloc, text, other)?, (false, false));
+    assert_eq!(rt; alike_texts(alloc, "all ( )", "any ( )")?, (false, false));
     Ok(())
 }
 
