@@ -1,10 +1,12 @@
 use cfg_dnf::{DnfExpr, InactiveReason, NumberedHint};
 use ra_cfg::{CfgAtom, CfgExpr, CfgOptions};
+use script_grammar::read_trees;
 use sqlite_items::Items;
 use std::alloc::{AllocError, Global};
 use std::test::Fail;
 use sym_core::Symbol;
-use syn_trees::{Spacing, TokenTree, TopSubtree, TtLiteral};
+use syn_trees::TopSubtree;
+use text_cut::begin;
 
 // The flag of this name.
 fn flag(alloc: Global, name: &str) -> Result<CfgAtom, AllocError> {
@@ -20,38 +22,12 @@ fn options_with(alloc: Global, names: &str) -> Result<CfgOptions, AllocError> {
     CfgOptions::from_iter(alloc, flags)
 }
 
-// The tree of a word: a comma, a literal or a name.
-fn tree(alloc: Global, word: &str) -> Result<TokenTree, AllocError> {
-    Ok(match word {
-        "," => TokenTree::Punct {
-            ch: ',',
-            spacing: Spacing::Alone,
-        },
-        "5" => TokenTree::Literal(TtLiteral {
-            text: Symbol::new(alloc, word)?,
-        }),
-        _ => TokenTree::Ident(Symbol::new(alloc, word)?),
-    })
-}
-
-// The first predicate of these words with a blank between; brackets are words too.
+// The first predicate of a text.
 fn predicate(alloc: Global, text: &str) -> Result<CfgExpr, AllocError> {
-    let mut outer = Vec::new(alloc);
-    let mut trees = Items::new(alloc);
-    for word in text.split_whitespace() {
-        match word {
-            "(" => {
-                outer.push(trees)?;
-                trees = Items::new(alloc);
-            }
-            ")" => {
-                let group = TokenTree::Subtree(trees);
-                trees = outer.pop().unwrap_or(Items::new(alloc));
-                trees.push(group)?;
-            }
-            _ => trees.push(tree(alloc, word)?)?,
-        }
+    if text.len() > 4_294_967_295 {
+        return Ok(CfgExpr::Invalid);
     }
+    let (trees, _end) = read_trees(alloc, begin(text))?;
     CfgExpr::parse(alloc, &TopSubtree { trees })
 }
 

@@ -19,31 +19,25 @@ fn argument(kind: FormatArgumentKind, node: u32) -> FormatArgument
     }
 }
 
-// An unnamed argument, one under the name `w`, an unnamed one, and a captured one under the name `x`.
-fn of_each_kind(alloc: Global) -> Result<FormatArgumentsCollector, AllocError> {
+// An unnamed argument, one under the name `w`, an unnamed one, and a captured one under the name `x`; and the place of each.
+fn of_each_kind(
+    alloc: Global,
+) -> Result<(FormatArgumentsCollector, (usize, usize, usize, usize)), AllocError> {
     let w = Name::new(alloc, "w")?;
     let x = Name::new(alloc, "x")?;
     let mut args = FormatArgumentsCollector::new(alloc);
-    args.add(argument(FormatArgumentKind::Normal, 10))?;
-    args.add(argument(FormatArgumentKind::Named(w), 11))?;
-    args.add(argument(FormatArgumentKind::Normal, 12))?;
-    args.add(argument(FormatArgumentKind::Captured(x), 13))?;
-    Ok(args)
+    let unnamed = args.add(argument(FormatArgumentKind::Normal, 10))?;
+    let named = args.add(argument(FormatArgumentKind::Named(w), 11))?;
+    let later = args.add(argument(FormatArgumentKind::Normal, 12))?;
+    let captured = args.add(argument(FormatArgumentKind::Captured(x), 13))?;
+    Ok((args, (unnamed, named, later, captured)))
 }
 
 #[test]
 fn takes_each_kind(rt: HostRuntime) -> Result<(), Fail> {
+    let (args, places) = of_each_kind(rt.alloc())?;
     let w = Name::new(rt.alloc(), "w")?;
-    let x = Name::new(rt.alloc(), "x")?;
-    let unnamed = argument(FormatArgumentKind::Normal, 10);
-    let named = argument(FormatArgumentKind::Named(w.clone()?), 11);
-    let later = argument(FormatArgumentKind::Normal, 12);
-    let captured = argument(FormatArgumentKind::Captured(x), 13);
-    let mut args = FormatArgumentsCollector::new(rt.alloc());
-    assert_eq!(rt; args.add(unnamed)?, 0);
-    assert_eq!(rt; args.add(named)?, 1);
-    assert_eq!(rt; args.add(later)?, 2);
-    assert_eq!(rt; args.add(captured)?, 3);
+    assert_eq!(rt; places, (0, 1, 2, 3));
     assert_eq!(rt; args.by_name(&w).map(|(place, _)| place), Some(1));
     assert!(rt; args.by_index(2).is_some() && args.by_index(3).is_none());
     assert_eq!(rt;
@@ -56,7 +50,7 @@ fn takes_each_kind(rt: HostRuntime) -> Result<(), Fail> {
 
 #[test]
 fn gives_all_back(rt: HostRuntime) -> Result<(), Fail> {
-    let mut args = of_each_kind(rt.alloc())?;
+    let (mut args, _) = of_each_kind(rt.alloc())?;
     assert!(rt; args.try_clone(rt.alloc())? == args);
     assert_eq!(rt; args.explicit_args().len(), 3);
     let before = args.try_clone(rt.alloc())?;

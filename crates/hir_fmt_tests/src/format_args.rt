@@ -55,43 +55,73 @@ fn unresolved(name: Name) -> FormatArgPosition {
     }
 }
 
+// Whether each part of a placeholder equals its copy.
+fn parts_equal_copies(alloc: Global, placeholder: &FormatPlaceholder) -> Result<bool, AllocError> {
+    let argument = placeholder.argument.try_clone(alloc)?;
+    let options = placeholder.format_options.try_clone(alloc)?;
+    Ok(argument == placeholder.argument && options == placeholder.format_options)
+}
+
+fn width_equals_copy(alloc: Global, width: &FormatCount) -> Result<bool, AllocError> {
+    Ok(width.try_clone(alloc)? == *width)
+}
+
+fn piece_equals_copy(alloc: Global, piece: &FormatArgsPiece) -> Result<bool, AllocError> {
+    Ok(piece.try_clone(alloc)? == *piece)
+}
+
 #[test]
 fn equals_its_copy(rt: HostRuntime) -> Result<(), Fail> {
     let placeholder = placeholder(rt.alloc())?;
-    let options = &placeholder.format_options;
-    assert!(rt; placeholder.argument.try_clone(rt.alloc())? == placeholder.argument);
-    assert!(rt; options.try_clone(rt.alloc())? == *options);
-    assert!(rt; *options != FormatOptions::default());
-    if let Some(width) = &options.width {
-        assert!(rt; width.try_clone(rt.alloc())? == *width);
+    assert!(rt; parts_equal_copies(rt.alloc(), &placeholder)?);
+    assert!(rt; placeholder.format_options != FormatOptions::default());
+    if let Some(width) = &placeholder.format_options.width {
+        assert!(rt; width_equals_copy(rt.alloc(), width)?);
     }
     assert!(rt; placeholder.try_clone(rt.alloc())? == placeholder);
     let piece = FormatArgsPiece::Placeholder(placeholder);
-    assert!(rt; piece.try_clone(rt.alloc())? == piece);
+    assert!(rt; piece_equals_copy(rt.alloc(), &piece)?);
     Ok(())
+}
+
+// The unnamed argument of expression 7.
+fn argument() -> FormatArgument {
+    FormatArgument {
+        kind: FormatArgumentKind::Normal,
+        expr: ExprId {
+            raw: RawIdx::from_u32(7),
+        },
+        syntax: None,
+    }
+}
+
+// A call of one placeholder and one argument.
+fn call(alloc: Global) -> Result<FormatArgs, AllocError> {
+    let piece = FormatArgsPiece::Placeholder(placeholder(alloc)?);
+    let template = vec![in alloc; piece]?;
+    let arguments = vec![in alloc; argument()]?;
+    Ok(FormatArgs {
+        template: Items::from_vec(template),
+        arguments: FormatArguments {
+            arguments: Items::from_vec(arguments),
+            num_unnamed_args: 1,
+            num_explicit_args: 1,
+            names: Items::new(alloc),
+        },
+        orphans: Items::new(alloc),
+    })
+}
+
+fn arguments_equal_copy(alloc: Global, arguments: &FormatArguments) -> Result<bool, AllocError> {
+    Ok(arguments.try_clone(alloc)? == *arguments)
 }
 
 #[test]
 fn equals_its_copy_as_a_whole(rt: HostRuntime) -> Result<(), Fail> {
-    let raw = RawIdx::from_u32(7);
-    let argument = FormatArgument {
-        kind: FormatArgumentKind::Normal,
-        expr: ExprId { raw },
-        syntax: None,
-    };
+    let argument = argument();
     assert!(rt; argument.try_clone(rt.alloc())? == argument);
-    let piece = FormatArgsPiece::Placeholder(placeholder(rt.alloc())?);
-    let call = FormatArgs {
-        template: Items::from_vec(vec![in rt.alloc(); piece]?),
-        arguments: FormatArguments {
-            arguments: Items::from_vec(vec![in rt.alloc(); argument]?),
-            num_unnamed_args: 1,
-            num_explicit_args: 1,
-            names: Items::new(rt.alloc()),
-        },
-        orphans: Items::new(rt.alloc()),
-    };
+    let call = call(rt.alloc())?;
+    assert!(rt; arguments_equal_copy(rt.alloc(), &call.arguments)?);
     assert!(rt; call.try_clone(rt.alloc())? == call);
-    assert!(rt; call.arguments.try_clone(rt.alloc())? == call.arguments);
     Ok(())
 }

@@ -1,4 +1,5 @@
-ghost use Rattle.std.specs.Prelude.{IfOk};
+ghost use Rattle.std.specs.Prelude.{◌≡◌, IfOk};
+ghost use Rattle.hir_fmt.specs.declared.format_args.FormatArgumentKind.TheVariants.{Named};
 ghost use Rattle.hir_fmt.specs.Arguments.{AreExplicit};
 
 use either::{Left, Right};
@@ -8,7 +9,9 @@ use hir_fmt::{
 };
 use hir_store::ExprId;
 use la_arena::RawIdx;
+use silent_captures::Silent;
 use std::alloc::{AllocError, Global};
+use std::fmt::Write;
 use std::test::Fail;
 use sym_core::{AstPtr, Name, Symbol, TextRange};
 use syn_trees::StringLit;
@@ -80,6 +83,19 @@ impl Captures for Notes {
     ghost grows_on = { λ a b c first more. tt };
 }
 
+// An argument with a name.
+fn written(name: Name, node: u32) -> FormatArgument
+    ensures { result.kind ≡ Named name }
+{
+    FormatArgument {
+        kind: FormatArgumentKind::Named(name),
+        expr: ExprId {
+            raw: RawIdx::from_u32(node),
+        },
+        syntax: None,
+    }
+}
+
 // The arguments with one more that is written, unless there is none to add.
 fn with_written(
     alloc: Global,
@@ -94,14 +110,8 @@ fn with_written(
     let Some(name) = name else {
         return Ok(args);
     };
-    let argument = FormatArgument {
-        kind: FormatArgumentKind::Named(Name::new(alloc, name)?),
-        expr: ExprId {
-            raw: RawIdx::from_u32(node),
-        },
-        syntax: None,
-    };
-    args.add(argument)?;
+    let name = Name::new(alloc, name)?;
+    args.add(written(name, node))?;
     Ok(args)
 }
 
@@ -247,44 +257,10 @@ fn makes_the_template_of_a_call(rt: HostRuntime) -> Result<(), Fail> {
 fn token_of_names(alloc: Global, count: u32) -> Result<String, AllocError> {
     let mut token = String::from_str(alloc, "\"")?;
     for number in 0..count {
-        token.push_str(format!(in alloc; "{{n{number}}}")?.as_str())?;
+        write!(token, "{{n{number}}}")?;
     }
     token.push_str("\"")?;
     Ok(token)
-}
-
-// Takes every name, and notes none.
-#[derive(Drop)]
-struct Silent {
-    made: u32,
-}
-
-impl Captures for Silent {
-    type Refused = u32;
-
-    ghost use Rattle.std.specs.Prelude.{None, ⊤};
-
-    ghost log = { λ silent. None };
-
-    ghost refusals = { λ silent. 0 };
-
-    ghost allows = { λ silent reason. ⊤ };
-
-    ghost grows = { λ old new. ⊤ };
-
-    fn synth(&mut self, _name: &Name, _span: Option<TextRange>) -> Result<ExprId, u32> {
-        let raw = RawIdx::from_u32(self.made);
-        self.made = self.made.saturating_add(1);
-        Ok(ExprId { raw })
-    }
-
-    fn record_usage(&mut self, _name: &Name, _span: Option<TextRange>) -> Result<(), u32> {
-        Ok(())
-    }
-
-    ghost grows_self = { λ a. tt };
-
-    ghost grows_on = { λ a b c first more. tt };
 }
 
 #[test]
@@ -293,7 +269,7 @@ fn captures_a_million_names(rt: HostRuntime) -> Result<(), Fail> {
     let token = token_of_names(alloc, 1_000_000)?;
     let s = literal_of(alloc, token.as_str())?.expect(&rt, "a string token");
     let args = FormatArgumentsCollector::new(alloc);
-    let mut silent = Silent { made: 0 };
+    let mut silent = Silent::new();
     match parse(alloc, &s, AstPtr { node: 1 }, args, true, &mut silent) {
         Ok(made) => {
             assert_eq!(rt; made.template.len(), 1_000_000);

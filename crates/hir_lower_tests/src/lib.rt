@@ -6,8 +6,6 @@ mod asm;
 #[cfg(test)]
 mod calls;
 #[cfg(test)]
-mod captures;
-#[cfg(test)]
 mod gated;
 #[cfg(test)]
 mod literals;

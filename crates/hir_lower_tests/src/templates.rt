@@ -4,12 +4,12 @@ ghost use Rattle.hir_fmt.specs.Arguments.{AreExplicit};
 ghost use Rattle.hir_lower.specs.FormatArgs.{exprs_of};
 
 use crate::calls::{ITEMS, SOMEWHERE, collector, format_call, lowered, printed};
-use crate::captures::Silent;
 use hir_expander::MacroTable;
 use hir_fmt::{FormatArgs, FormatArgument, FormatArgumentKind, FormatArgumentsCollector, parse};
 use hir_lower::ExprCollector;
 use hir_store::ExprId;
 use la_arena::RawIdx;
+use silent_captures::Silent;
 use std::alloc::{AllocError, Global};
 use std::test::Fail;
 use sym_core::Symbol;

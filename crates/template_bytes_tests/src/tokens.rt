@@ -1,13 +1,13 @@
 ghost use Rattle.std.specs.Prelude.{IfOk};
 ghost use Rattle.hir_fmt.specs.Arguments.{AreExplicit};
 
-use crate::captures::Silent;
 use hir_fmt::{
     FormatArgsPiece, FormatArgument, FormatArgumentKind, FormatArgumentsCollector, FormatTrait,
     parse,
 };
 use hir_store::ExprId;
 use la_arena::RawIdx;
+use silent_captures::Silent;
 use sqlite_items::Items;
 use std::alloc::{AllocError, Global};
 use std::test::Fail;

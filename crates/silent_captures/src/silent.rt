@@ -3,15 +3,15 @@ use hir_store::ExprId;
 use la_arena::RawIdx;
 use sym_core::{Name, TextRange};
 
-/// Makes an expression for every name.
+/// Makes an expression for every name, numbered from 0 on, and never refuses.
 #[derive(Drop)]
-pub(crate) struct Silent {
+pub struct Silent {
     made: u32,
 }
 
 impl Silent {
     /// None made yet.
-    pub(crate) fn new() -> Silent {
+    pub fn new() -> Silent {
         Silent { made: 0 }
     }
 }
